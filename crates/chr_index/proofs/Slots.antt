@@ -1,5 +1,5 @@
 -- Slots of a bucket.
-use Rattle.std.proofs.Common.{length-take-le, get_or-take, get_or-drop, length-drop, ◌≡◌, ℕ, zero, suc, ◌+◌, ◌-◌, ◌<◌, ◌≤◌, Bool, true, false, ◌==◌, if◌then◌else◌, List, [], ◌∷◌, ◌++◌, Option, Some, None, refl, sym, ap, subst, arith, true-eqb, length, take, drop, slice_index_or, ◌∙◌, slice_set, get_or, inl, inr, length-append, ltb, add-one, option_map, nat_eq, ltb-true, unwrap_or, drop-drop, length-set}
+use Rattle.std.proofs.Common.{length-take-le, get_or-take, get_or-drop, length-drop, ◌≡◌, ℕ, zero, suc, ◌+◌, ◌-◌, ◌<◌, ◌≤◌, Bool, true, false, ◌==◌, if◌then◌else◌, List, [], ◌∷◌, ◌++◌, Option, Some, None, refl, sym, ap, subst, arith, true-eqb, length, take, drop, slice_index_or, ◌∙◌, slice_set, get_or, inl, inr, length-append, ltb, add-one, option_map, nat_eq, nat_lt, ltb-true, unwrap_or, drop-drop, length-set}
 use Rattle.std.specs.List.{AllByRecursion, slice_get}
 use Rattle.std.proofs.Math.Seq.{drop-cons}
 use Rattle.std.proofs.lemmas.List.Elements.{All-from_recursion, recursion_from_All, All-filter, All-weaker, All-append}
@@ -8,8 +8,9 @@ use Rattle.std.proofs.lemmas.Option.{slice_get_cases, slice_get_read, slice_get-
 use Rattle.std.proofs.lemmas.Bool.{ltb-false, eqb-true}
 use Rattle.std.proofs.lemmas.Bool.Decides.{nat_tests}
 use Rattle.chr_value.proofs.Places.{all-push}
+use Rattle.chr_index.specs.declared.bucket.TheConstants.{BACK}
 use Rattle.chr_index.specs.declared.bucket.Slot.{Slot}
-use Rattle.chr_index.specs.Buckets.{is_live, JumpsAreDead, live_labels, live_slots, drop_number, IsIn, SlotsRise, IsLeastBetween, IsLiveOrNone, HasLabelAt, IsBucket, jump_at, AreAlike}
+use Rattle.chr_index.specs.Buckets.{is_live, jump_of, JumpsAreDead, live_labels, live_slots, drop_number, IsIn, SlotsRise, IsLeastBetween, IsLiveOrNone, HasLabelAt, IsBucket, jump_at, AreAlike}
 
 -- ---- how many live
 
@@ -134,13 +135,17 @@ front_struck [] (suc f) i t d h = refl
 front_struck (s ∷ ss) (suc f) zero t d h = ap (λ (b : Bool). if b then t.label ∷ live_labels (take f ss) else live_labels (take f ss)) d ∙ elim (is_live s) as (λ b. (if b then s.label ∷ live_labels (take f ss) else live_labels (take f ss)) ≡ [] → live_labels (take f ss) ≡ []) [ true ↦ λ k. absurd (cc) | false ↦ λ k. k ] h
 front_struck (s ∷ ss) (suc f) (suc i) t d h = elim (is_live s) as (λ b. (if b then s.label ∷ live_labels (take f ss) else live_labels (take f ss)) ≡ [] → (if b then s.label ∷ live_labels (take f (slice_set ss i t)) else live_labels (take f (slice_set ss i t))) ≡ []) [ true ↦ λ k. absurd (cc) | false ↦ λ k. front_struck ss f i t d k ] h
 
-jump_none : (s : Slot) → is_live s ≡ true → s.jump ≡ 0
-jump_none s h = eqb-true s.jump 0 h
+-- the jump of a slot, by its run
+abbrev pub run_jump : ℕ → ℕ
+run_jump n = if nat_lt n BACK then n else 1
+
+jump_none : (s : Slot) → is_live s ≡ true → jump_of s ≡ 0
+jump_none s h = ap run_jump (eqb-true s.run 0 h)
 
 pub kept_jumps : (ss : List Slot) → JumpsAreDead (live_slots ss)
 kept_jumps [] = tt
 kept_jumps (s ∷ ss) = elim (is_live s) as (λ b. (is_live s ≡ b) → JumpsAreDead (if b then s ∷ live_slots ss else live_slots ss)) [
-  | true ↦ λ t. ((let z : s.jump ≡ 0 = jump_none s t in omega arith), ap (λ (n : ℕ). live_labels (take n (s ∷ live_slots ss))) (jump_none s t), kept_jumps ss)
+  | true ↦ λ t. ((let z : jump_of s ≡ 0 = jump_none s t in omega arith), ap (λ (n : ℕ). live_labels (take n (s ∷ live_slots ss))) (jump_none s t), kept_jumps ss)
   | false ↦ λ t. kept_jumps ss
 ] refl
 
@@ -157,20 +162,20 @@ pub record IsReady (l : ℕ) (old : List ℕ) (ss : List Slot) (f : ℕ) : Type 
 pub kept_ready : (l : ℕ) (old : List ℕ) (ss : List Slot) → SlotsRise ss → live_labels ss ≡ old → AllByRecursion (λ m. m < l) old → IsReady l old (live_slots ss) 0
 kept_ready l old ss r e h = record { bucket = kept_bucket ss r; below = kept_pass (λ m. m < l) ss (subst (AllByRecursion (λ m. m < l)) (sym e) h); same = living_kept ss ∙ e }
 
-jumps_push : (ss : List Slot) (t : Slot) → t.jump ≡ 0 → JumpsAreDead ss → JumpsAreDead (ss ++ t ∷ [])
+jumps_push : (ss : List Slot) (t : Slot) → jump_of t ≡ 0 → JumpsAreDead ss → JumpsAreDead (ss ++ t ∷ [])
 jumps_push [] t e h = ((omega arith), ap (λ (n : ℕ). live_labels (take n (t ∷ []))) e, tt)
-jumps_push (s ∷ ss) t e h = ((let z = length-append (s ∷ ss) (t ∷ []) in let y : s.jump ≤ length (s ∷ ss) = h.0 in omega (arith, z, y)), ap live_labels (take-append-le s.jump (s ∷ ss) (t ∷ []) h.0) ∙ h.1, jumps_push ss t e h.2)
+jumps_push (s ∷ ss) t e h = ((let z = length-append (s ∷ ss) (t ∷ []) in let y : jump_of s ≤ length (s ∷ ss) = h.0 in omega (arith, z, y)), ap live_labels (take-append-le (jump_of s) (s ∷ ss) (t ∷ []) h.0) ∙ h.1, jumps_push ss t e h.2)
 
-pub pushed_bucket : (l : ℕ) (old : List ℕ) (ss : List Slot) (f : ℕ) → IsReady l old ss f → IsBucket (ss ++ (record { label = l; jump = 0; back = 0 }) ∷ []) f
+pub pushed_bucket : (l : ℕ) (old : List ℕ) (ss : List Slot) (f : ℕ) → IsReady l old ss f → IsBucket (ss ++ (record { label = l; run = 0 }) ∷ []) f
 pushed_bucket l old ss f h = record {
-  rising = rise_push (record { label = l; jump = 0; back = 0 }) ss h.below h.bucket.rising;
-  jumps = jumps_push ss (record { label = l; jump = 0; back = 0 }) refl h.bucket.jumps;
+  rising = rise_push (record { label = l; run = 0 }) ss h.below h.bucket.rising;
+  jumps = jumps_push ss (record { label = l; run = 0 }) refl h.bucket.jumps;
   within = simp length-append (omega (arith, h.bucket.within));
-  front = ap live_labels (take-append-le f ss ((record { label = l; jump = 0; back = 0 }) ∷ []) h.bucket.within) ∙ h.bucket.front;
+  front = ap live_labels (take-append-le f ss ((record { label = l; run = 0 }) ∷ []) h.bucket.within) ∙ h.bucket.front;
 }
 
-pub pushed_living : (l : ℕ) (old : List ℕ) (ss : List Slot) (f : ℕ) → IsReady l old ss f → live_labels (ss ++ (record { label = l; jump = 0; back = 0 }) ∷ []) ≡ old ++ l ∷ []
-pushed_living l old ss f h = living_append ss ((record { label = l; jump = 0; back = 0 }) ∷ []) ∙ ap (λ (z : List ℕ). z ++ l ∷ []) h.same
+pub pushed_living : (l : ℕ) (old : List ℕ) (ss : List Slot) (f : ℕ) → IsReady l old ss f → live_labels (ss ++ (record { label = l; run = 0 }) ∷ []) ≡ old ++ l ∷ []
+pushed_living l old ss f h = living_append ss ((record { label = l; run = 0 }) ∷ []) ∙ ap (λ (z : List ℕ). z ++ l ∷ []) h.same
 
 -- ---- the last slot, where it is live
 
@@ -192,8 +197,8 @@ dead_front xs t j u h = sym (ap live_labels (take-append-le j xs (t ∷ []) u)) 
 jumps_pop : (xs : List Slot) (t : Slot) → is_live t ≡ true → JumpsAreDead (xs ++ t ∷ []) → JumpsAreDead xs
 jumps_pop [] t live h = tt
 jumps_pop (x ∷ xs) t live h =
-    let u : x.jump ≤ length (x ∷ xs) = among_dead (x ∷ xs) t x.jump live h.0 h.1 in
-    (u, dead_front (x ∷ xs) t x.jump u h.1, jumps_pop xs t live h.2)
+    let u : jump_of x ≤ length (x ∷ xs) = among_dead (x ∷ xs) t (jump_of x) live h.0 h.1 in
+    (u, dead_front (x ∷ xs) t (jump_of x) u h.1, jumps_pop xs t live h.2)
 
 above_pop : (k : ℕ) (xs : List Slot) (t : Slot) → AllByRecursion (λ s. k < s.label) (xs ++ t ∷ []) → AllByRecursion (λ s. k < s.label) xs × (k < t.label)
 above_pop k [] t h = (tt, h.0)
@@ -428,17 +433,17 @@ jump_here [] (suc i) h = record { within = omega arith; dead = refl }
 jump_here (s ∷ ss) zero h = record { within = h.0; dead = h.1 }
 jump_here (s ∷ ss) (suc i) h = let k = jump_here ss i h.2 in record { within = k.within; dead = k.dead }
 
-jump_slot : (ss : List Slot) (i : ℕ) → jump_at ss i ≡ unwrap_or (option_map (λ s. s.jump) (slice_get ss i)) 0
+jump_slot : (ss : List Slot) (i : ℕ) → jump_at ss i ≡ unwrap_or (option_map (λ s. jump_of s) (slice_get ss i)) 0
 jump_slot [] i = refl
 jump_slot (s ∷ ss) zero = refl
 jump_slot (s ∷ ss) (suc i) = jump_slot ss i
 
-pub jump_in : (ss : List Slot) (i : ℕ) (d : Slot) → i < length ss → (get_or ss i d).jump ≡ jump_at ss i
-jump_in ss i d u = sym (jump_slot ss i ∙ ap (λ (o : Option Slot). unwrap_or (option_map (λ s. s.jump) o) 0) (slice_get-get_or ss i d u))
+pub jump_in : (ss : List Slot) (i : ℕ) (d : Slot) → i < length ss → jump_of (get_or ss i d) ≡ jump_at ss i
+jump_in ss i d u = sym (jump_slot ss i ∙ ap (λ (o : Option Slot). unwrap_or (option_map (λ s. jump_of s) o) 0) (slice_get-get_or ss i d u))
 
 -- the jump of the slot that there is at a place, or 0
-pub jump_got : (ss : List Slot) (i : ℕ) (o : Option Slot) → slice_get ss i ≡ o → unwrap_or (option_map (λ s. s.jump) o) 0 ≡ jump_at ss i
-jump_got ss i o h = sym (jump_slot ss i ∙ ap (λ (o : Option Slot). unwrap_or (option_map (λ s. s.jump) o) 0) h)
+pub jump_got : (ss : List Slot) (i : ℕ) (o : Option Slot) → slice_get ss i ≡ o → unwrap_or (option_map (λ s. jump_of s) o) 0 ≡ jump_at ss i
+jump_got ss i o h = sym (jump_slot ss i ∙ ap (λ (o : Option Slot). unwrap_or (option_map (λ s. jump_of s) o) 0) h)
 
 -- a jump doesn't leave the slots
 pub jump_within : (ss : List Slot) (i : ℕ) → i ≤ length ss → JumpsAreDead ss → i + jump_at ss i ≤ length ss
@@ -461,28 +466,28 @@ jump_both ss i p j u v e l h =
 -- ---- one slot in place of another
 
 -- with another jump
-pub jumps_set : (ss : List Slot) (i : ℕ) (t d : Slot) → i < length ss → (get_or ss i d).label ≡ t.label → is_live (get_or ss i d) ≡ is_live t → IsJump ss i t.jump → JumpsAreDead ss → JumpsAreDead (slice_set ss i t)
+pub jumps_set : (ss : List Slot) (i : ℕ) (t d : Slot) → i < length ss → (get_or ss i d).label ≡ t.label → is_live (get_or ss i d) ≡ is_live t → IsJump ss i (jump_of t) → JumpsAreDead ss → JumpsAreDead (slice_set ss i t)
 jumps_set [] i t d u e f j h = absurd (omega arith)
-jumps_set (s ∷ ss) zero t d u e f j h = (j.within, sym (alike_living (take t.jump (s ∷ ss)) (take t.jump (t ∷ ss)) (alike_take (s ∷ ss) (t ∷ ss) t.jump (e, f, alike_same ss))) ∙ j.dead, h.2)
+jumps_set (s ∷ ss) zero t d u e f j h = (j.within, sym (alike_living (take (jump_of t) (s ∷ ss)) (take (jump_of t) (t ∷ ss)) (alike_take (s ∷ ss) (t ∷ ss) (jump_of t) (e, f, alike_same ss))) ∙ j.dead, h.2)
 jumps_set (s ∷ ss) (suc i) t d u e f j h =
     let same : AreAlike (s ∷ ss) (s ∷ slice_set ss i t) = (refl, refl, alike_set ss i t d (omega arith) e f) in (
       omega (arith, h.0, length-set ss i t),
-      sym (alike_living (take s.jump (s ∷ ss)) (take s.jump (s ∷ slice_set ss i t)) (alike_take (s ∷ ss) (s ∷ slice_set ss i t) s.jump same)) ∙ h.1,
+      sym (alike_living (take (jump_of s) (s ∷ ss)) (take (jump_of s) (s ∷ slice_set ss i t)) (alike_take (s ∷ ss) (s ∷ slice_set ss i t) (jump_of s) same)) ∙ h.1,
       jumps_set ss i t d (omega arith) e f (record { within = j.within; dead = j.dead }) h.2,
     )
 
 -- dead, with a jump that is at most one more than the next one's
-pub jumps_struck : (ss : List Slot) (i : ℕ) (t : Slot) → is_live t ≡ false → t.jump ≤ jump_at ss (suc i) + 1 → JumpsAreDead ss → JumpsAreDead (slice_set ss i t)
+pub jumps_struck : (ss : List Slot) (i : ℕ) (t : Slot) → is_live t ≡ false → jump_of t ≤ jump_at ss (suc i) + 1 → JumpsAreDead ss → JumpsAreDead (slice_set ss i t)
 jumps_struck [] i t d u h = tt
 jumps_struck (s ∷ ss) zero t d u h =
-    ((omega (arith, (jump_here ss 0 h.2).within)), dead t.jump u, h.2)
+    ((omega (arith, (jump_here ss 0 h.2).within)), dead (jump_of t) u, h.2)
   where
     dead : (j : ℕ) → j ≤ jump_at ss 0 + 1 → live_labels (take j (t ∷ ss)) ≡ []
     dead zero v = refl
     dead (suc j) v = ap (λ (b : Bool). if b then t.label ∷ live_labels (take j ss) else live_labels (take j ss)) d ∙ fewer ss (jump_at ss 0) j (omega arith) (jump_here ss 0 h.2).dead
 jumps_struck (s ∷ ss) (suc i) t d u h = (
   omega (arith, h.0, length-set ss i t),
-  front_struck (s ∷ ss) s.jump (suc i) t d h.1,
+  front_struck (s ∷ ss) (jump_of s) (suc i) t d h.1,
   jumps_struck ss i t d u h.2,
 )
 
@@ -498,6 +503,36 @@ front_later ss f r h e = no_more (live_labels (take r ss)) (live_labels (drop r 
 
 pub dead_one : (n : ℕ) → 0 < n → nat_eq n 0 ≡ false
 dead_one n h = grind (arith, nat_tests)
+
+-- a slot that is dead jumps
+pub jump_some : (s : Slot) → (s.run ≡ 0 → ⊥) → 0 < jump_of s
+jump_some s h = grind (arith, nat_tests)
+
+-- a run below BACK is the jump, and one from there on jumps over one slot
+pub jump_low : (n : ℕ) → n < BACK → run_jump n ≡ n
+jump_low n h = grind (arith, nat_tests)
+
+pub jump_one : (n : ℕ) → BACK ≤ n → run_jump n ≡ 1
+jump_one n h = grind (arith, nat_tests)
+
+-- each of the slots in a front that is dead is dead
+dead_in : (ss : List Slot) (j k : ℕ) (d : Slot) → k < j → k < length ss → live_labels (take j ss) ≡ [] → is_live (get_or ss k d) ≡ false
+dead_in ss zero k d u v h = absurd (omega arith)
+dead_in [] (suc j) k d u v h = absurd (omega arith)
+dead_in (s ∷ ss) (suc j) zero d u v h = elim (is_live s) as (λ b. (if b then s.label ∷ live_labels (take j ss) else live_labels (take j ss)) ≡ [] → b ≡ false) [ true ↦ λ e. absurd (cc) | false ↦ λ e. refl ] h
+dead_in (s ∷ ss) (suc j) (suc k) d u v h = dead_in ss j k d (omega arith) (omega arith) (elim (is_live s) as (λ b. (if b then s.label ∷ live_labels (take j ss) else live_labels (take j ss)) ≡ [] → live_labels (take j ss) ≡ []) [ true ↦ λ e. absurd (cc) | false ↦ λ e. e ] h)
+
+-- each slot that a jump leads over is dead, and by itself a jump over one
+pub over_dead : (ss : List Slot) (i m : ℕ) (d : Slot) → i ≤ m → m < i + jump_at ss i → m < length ss → JumpsAreDead ss → is_live (get_or ss m d) ≡ false
+over_dead ss i m d u v w h =
+    let e : i + (m - i) ≡ m = omega arith in
+    subst (λ (n : ℕ). is_live (get_or ss n d) ≡ false) e
+    (subst (λ (t : Slot). is_live t ≡ false) (get_or-drop i ss (m - i) d) (dead_in (drop i ss) (jump_at ss i) (m - i) d (omega arith) (omega (arith, length-drop i ss)) (jump_here ss i h).dead))
+
+pub jump_alone : (ss : List Slot) (i : ℕ) (d : Slot) → i < length ss → is_live (get_or ss i d) ≡ false → IsJump ss i 1
+jump_alone [] i d u h = absurd (omega arith)
+jump_alone (s ∷ ss) zero d u h = record { within = omega arith; dead = ap (λ (b : Bool). if b then s.label ∷ [] else []) h }
+jump_alone (s ∷ ss) (suc i) d u h = let k = jump_alone ss i d (omega arith) h in record { within = k.within; dead = k.dead }
 
 -- ---- what a look-up gives
 

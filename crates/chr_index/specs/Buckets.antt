@@ -1,13 +1,18 @@
 -- The slots of a bucket, and the labels of its live ones.
-use Rattle.std.specs.Prelude.{◌≡◌, ℕ, zero, suc, Bool, nat_eq, ◌<◌, ◌≤◌, ◌==◌, if◌then◌else◌, ◌⊎◌, true, List, [], ◌∷◌, length, Option, take, slice_get, MatchOption}
+use Rattle.std.specs.Prelude.{◌≡◌, ℕ, zero, suc, Bool, nat_eq, nat_lt, ◌<◌, ◌≤◌, ◌==◌, if◌then◌else◌, ◌⊎◌, true, List, [], ◌∷◌, length, Option, take, slice_get, MatchOption}
 use Rattle.std.specs.Option.{option_map}
 use Rattle.std.specs.Prelude.{Some}
 use Rattle.std.specs.List.{AllByRecursion, filter}
+use Rattle.chr_index.specs.declared.bucket.TheConstants.{BACK}
 use Rattle.chr_index.specs.declared.bucket.Slot.{Slot}
 
--- a slot is live where it has no jump
+-- a slot is live where its run is 0
 abbrev pub is_live : Slot → Bool
-is_live s = nat_eq s.jump 0
+is_live s = nat_eq s.run 0
+
+-- how many slots from this one on are dead, as its run tells: one where that is BACK or more
+abbrev pub jump_of : Slot → ℕ
+jump_of s = if nat_lt s.run BACK then s.run else 1
 
 -- the labels of the slots that are live
 abbrev pub live_labels : List Slot → List ℕ
@@ -50,14 +55,15 @@ HasLabelAt slots i label = option_map (λ s. s.label) (slice_get slots i) ≡ So
 -- the jump at a place, 0 where there is none
 abbrev pub jump_at : List Slot → ℕ → ℕ
 jump_at [] i = 0
-jump_at (s ∷ ss) zero = s.jump
+jump_at (s ∷ ss) zero = jump_of s
 jump_at (s ∷ ss) (suc i) = jump_at ss i
 
 -- from each slot on, as many as its jump says are dead
 abbrev pub JumpsAreDead : List Slot → Type 0
 JumpsAreDead [] = Unit {0}
 JumpsAreDead (s ∷ ss) =
-    (s.jump ≤ length (s ∷ ss)) × (live_labels (take s.jump (s ∷ ss)) ≡ []) × JumpsAreDead ss
+    (jump_of s ≤ length (s ∷ ss)) × (live_labels (take (jump_of s) (s ∷ ss)) ≡ [])
+    × JumpsAreDead ss
 
 -- the same labels, live or dead as before
 abbrev pub AreAlike : List Slot → List Slot → Type 0

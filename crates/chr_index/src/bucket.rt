@@ -1,20 +1,37 @@
 //! The labels of one key, rising.
 ghost use Rattle.std.specs.Prelude.{◌≡◌, ℕ, false, ◌+◌, ◌<◌, ◌≤◌, ◌++◌, ◌∷◌, ◌↔◌, [], IfOk, IfSome, OnOk, OnErr, IsTrue, length, take, drop, MatchOption, slice_get};
 ghost use Rattle.std.specs.List.{AllByRecursion};
-ghost use Rattle.chr_index.specs.Buckets.{jump_at, JumpsAreDead, AreAlike, drop_number, IsLeastBetween, live_labels, live_slots, SlotsRise, IsLiveOrNone, HasLabelAt};
+ghost use Rattle.chr_value.specs.Stores.{greatest_label};
+ghost use Rattle.chr_index.specs.Buckets.{jump_of, jump_at, JumpsAreDead, AreAlike, drop_number, IsLeastBetween, live_labels, live_slots, SlotsRise, IsLiveOrNone, HasLabelAt};
 
 use std::alloc::{AllocError, Allocator};
 use std::marker::Model;
 
+/// From this on, the `run` of a slot tells how far before it a run of dead slots begins.
+const BACK: u32 = 2_147_483_648;
+
+/// The most dead slots that the `run` of a slot tells of.
+const MOST_JUMP: u32 = BACK - 1;
+
 /// A label that a bucket has, or had.
 #[derive(Clone, Copy, Drop)]
 pub struct Slot {
-    pub label: u64,
-    /// 0 while the bucket has the label. Then this many slots, from this one on, are dead: all of a run in its first
-    /// slot, perhaps fewer in the others.
-    pub jump: u32,
-    /// In the last slot of a run of dead ones, how far before it the run begins.
-    pub back: u32,
+    pub label: u32,
+    /// 0 while the bucket has the label. Then, below `BACK`, this many slots from this one on are dead: all of a run of
+    /// dead slots in its first one, or `MOST_JUMP` where it has more, and perhaps fewer in the others. In the last slot
+    /// of a run of two to `MOST_JUMP` slots it is `BACK` plus how far before it the run begins.
+    pub run: u32,
+}
+
+impl Slot {
+    /// How many slots from this one on are dead, as its `run` tells.
+    #[inline(always)]
+    fn jump(self) -> u32
+        ensures is { result ≡ jump_of self }
+        ensures short { result ≤ MOST_JUMP }
+    {
+        if self.run < BACK { self.run } else { 1 }
+    }
 }
 
 /// Labels that rise. One that is taken out leaves a dead slot, and once more than half are dead they go, in place. A
@@ -44,7 +61,7 @@ fn place_above(slots: &[Slot], label: u64) -> usize
     ensures front { AllByRecursion (λ s. s.label ≤ label) (take result slots.now) }
     ensures later { AllByRecursion (λ s. label < s.label) (drop result slots.now) }
 {
-    slots.partition_point(|slot| slot.label <= label)
+    slots.partition_point(|slot| u64::from(slot.label) <= label)
 }
 
 /// The place of the first slot whose label is above a label. It takes no search where the slot at `near` has that label,
@@ -59,10 +76,11 @@ fn place_near(slots: &[Slot], near: usize, label: u64) -> usize
     let Some(slot) = slots.get(near) else {
         return place_above(slots, label);
     };
-    if slot.label == label {
+    let found = u64::from(slot.label);
+    if found == label {
         return near + 1;
     }
-    if near == 0 && label < slot.label {
+    if near == 0 && label < found {
         return 0;
     }
     place_above(slots, label)
@@ -77,7 +95,7 @@ fn find(slots: &[Slot], near: usize, label: u64) -> Option<usize>
     if above == 0 {
         return None;
     }
-    if slots[above - 1].label != label {
+    if u64::from(slots[above - 1].label) != label {
         return None;
     }
     Some(above - 1)
@@ -93,19 +111,20 @@ fn first_live(slots: &[Slot], from: usize) -> usize
     ensures live { IsLiveOrNone (slice_get slots.now result) }
 {
     let mut place = from;
-    while place < slots.len() && slots[place].jump != 0 {
-        place += slots[place].jump as usize;
+    while place < slots.len() && slots[place].run != 0 {
+        place += slots[place].jump() as usize;
     }
     place
 }
 
 /// The jump of a slot, 0 where there is none.
 fn jump_at(slots: &[Slot], place: usize) -> u32
-    ensures { result ≡ jump_at slots.now place }
+    ensures is { result ≡ jump_at slots.now place }
+    ensures short { result ≤ MOST_JUMP }
 {
     match slots.get(place) {
         None => 0,
-        Some(slot) => slot.jump,
+        Some(slot) => slot.jump(),
     }
 }
 
@@ -119,14 +138,15 @@ fn run_before(slots: &[Slot], place: usize) -> Option<usize>
         return None;
     }
     let last = place - 1;
-    let start = last.saturating_sub(slots[last].back as usize);
+    let back = slots[last].run.saturating_sub(BACK);
+    let start = last.saturating_sub(back as usize);
     if jump_at(slots, start) as usize != place - start {
         return None;
     }
     Some(start)
 }
 
-/// Notes in the last slot of a run where the run begins.
+/// Notes in the last slot of a run of two or more where the run begins.
 fn note_begin(slots: &mut [Slot], start: usize)
     requires within { start < length slots.old }
     requires jumps { JumpsAreDead slots.old }
@@ -134,15 +154,13 @@ fn note_begin(slots: &mut [Slot], start: usize)
     ensures jumps { JumpsAreDead slots.new }
 {
     let jump = jump_at(slots, start);
-    if jump == 0 {
+    if jump < 2 {
         return;
     }
     let last = start + jump as usize - 1;
-    let slot = slots[last];
     slots[last] = Slot {
-        label: slot.label,
-        jump: slot.jump,
-        back: jump - 1,
+        label: slots[last].label,
+        run: BACK + (jump - 1),
     };
 }
 
@@ -157,32 +175,29 @@ fn join_runs(slots: &mut [Slot], place: usize)
         note_begin(slots, place);
         return;
     };
-    let slot = slots[start];
-    let more = jump_at(slots, place);
+    let both = jump_at(slots, start) + jump_at(slots, place);
     slots[start] = Slot {
-        label: slot.label,
-        jump: slot.jump.saturating_add(more),
-        back: slot.back,
+        label: slots[start].label,
+        run: both.min(MOST_JUMP),
     };
     note_begin(slots, start);
 }
 
-/// Marks the slot of a label as dead.
-fn mark_dead(slots: &mut [Slot], place: usize, label: u64)
+/// Marks a slot as dead.
+fn mark_dead(slots: &mut [Slot], place: usize)
     requires rising { SlotsRise slots.old }
     requires jumps { JumpsAreDead slots.old }
-    requires there { HasLabelAt slots.old place label }
-    ensures live_labels { live_labels slots.new ≡ drop_number label (live_labels slots.old) }
+    requires within { place < length slots.old }
+    ensures live_labels { (label : ℕ) → HasLabelAt slots.old place label → live_labels slots.new ≡ drop_number label (live_labels slots.old) }
     ensures rising { SlotsRise slots.new }
     ensures jumps { JumpsAreDead slots.new }
     ensures count { length slots.new ≡ length slots.old }
     ensures front { (f : ℕ) → live_labels (take f slots.old) ≡ [] → live_labels (take f slots.new) ≡ [] }
 {
-    let jump = jump_at(slots, place + 1).saturating_add(1);
+    let jump = jump_at(slots, place + 1) + 1;
     slots[place] = Slot {
-        label,
-        jump,
-        back: 0,
+        label: slots[place].label,
+        run: jump.min(MOST_JUMP),
     };
     join_runs(slots, place);
 }
@@ -191,7 +206,7 @@ fn mark_dead(slots: &mut [Slot], place: usize, label: u64)
 fn compact<A: Allocator>(slots: &mut Vec<Slot, A>)
     ensures { slots.new.items ≡ live_slots slots.old.items }
 {
-    slots.retain(|slot| slot.jump == 0);
+    slots.retain(|slot| slot.run == 0);
 }
 
 /// Whether each slot is below a label.
@@ -201,7 +216,7 @@ fn is_below(slots: &[Slot], label: u64) -> bool
 {
     match slots.last() {
         None => true,
-        Some(last) => last.label < label,
+        Some(last) => u64::from(last.label) < label,
     }
 }
 
@@ -253,9 +268,10 @@ impl<'s> Run<'s> {
         let Some(slot) = self.slots.get(place) else {
             return None;
         };
-        if slot.label < below {
+        let label = u64::from(slot.label);
+        if label < below {
             self.near = place;
-            Some(slot.label)
+            Some(label)
         } else {
             None
         }
@@ -283,7 +299,8 @@ impl<A: Allocator + Copy> Bucket<A> {
 
     /// One label more, above the others. E01 where the bucket could not grow, which is then unchanged.
     pub fn push(&mut self, label: u64) -> Result<(), AllocError>
-        requires { AllByRecursion (λ m. m < label) self.old }
+        requires below { AllByRecursion (λ m. m < label) self.old }
+        requires fits { label ≤ greatest_label }
         ensures ok { OnOk result (self.new ≡ self.old ++ label ∷ []) }
         ensures unchanged { OnErr result (self.new ≡ self.old) }
     {
@@ -293,9 +310,8 @@ impl<A: Allocator + Copy> Bucket<A> {
             self.dead = 0;
         }
         let Ok(()) = self.slots.push(Slot {
-            label,
-            jump: 0,
-            back: 0,
+            label: label as u32,
+            run: 0,
         })
         else {
             return Err(AllocError);
@@ -311,7 +327,7 @@ impl<A: Allocator + Copy> Bucket<A> {
         let Some(last) = self.slots.last() else {
             return false;
         };
-        if last.label != label || last.jump != 0 {
+        if u64::from(last.label) != label || last.run != 0 {
             return false;
         }
         let _ = self.slots.pop();
@@ -325,7 +341,7 @@ impl<A: Allocator + Copy> Bucket<A> {
         let Some(place) = find(&self.slots, self.first, label) else {
             return;
         };
-        mark_dead(&mut self.slots, place, label);
+        mark_dead(&mut self.slots, place);
         self.dead = self.dead.saturating_add(1);
     }
 

@@ -40,7 +40,8 @@ fn pair<A: Allocator + Copy>(
     first: Label,
     second: Label,
 ) -> Result<u32, AllocError>
-    requires { first < second }
+    requires rising { first < second }
+    requires fits { second ≤ greatest_label }
     ensures vacant { IfOk result (λ n. get buckets.old n ≡ None) }
     ensures ok { IfOk result (λ n. Updates buckets.old buckets.new n (Some (first ∷ second ∷ []))) }
     ensures unchanged { OnErr result (SameValues buckets.old buckets.new) }
@@ -65,6 +66,7 @@ fn push_label<A: Allocator + Copy>(
 ) -> Result<(), AllocError>
     requires there { ContainsKey buckets.old number }
     requires below { AllByRecursion (λ m. m < label) (bucket_labels buckets.old number) }
+    requires fits { label ≤ greatest_label }
     ensures ok { OnOk result (Updates buckets.old buckets.new number (Some (bucket_labels buckets.old number ++ label ∷ []))) }
     ensures unchanged { OnErr result (SameValues buckets.old buckets.new) }
 {

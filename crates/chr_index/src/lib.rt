@@ -2,7 +2,8 @@
 //!
 //! An [`Index`] has rising labels under each of its keys. A [`Key`] is a word of 64 bits with its kind. The keys stand in a
 //! table of entries of 16 bytes, each at its home, which a multiplication gives, or after it, so that finding one takes a
-//! look or two. The only label of a key stands in its entry, and where it has more they stand in a [`Bucket`].
+//! look or two. The only label of a key stands in its entry, and where it has more they stand in a [`Bucket`], in slots of
+//! eight bytes.
 //!
 //! [`Matches`] goes through the labels of a key, and going on from the label found last takes no search.
 //!

@@ -86,7 +86,8 @@ fn put_in_row<A: Allocator + Copy>(
     row: usize,
     label: Label,
 ) -> Result<(), AllocError>
-    requires { AllByRecursion (λ m. m < label) (row_at rows.old.items row) }
+    requires below { AllByRecursion (λ m. m < label) (row_at rows.old.items row) }
+    requires fits { label ≤ greatest_label }
     ensures ok { OnOk result ((i : ℕ) → row_at rows.new.items i ≡ (if nat_eq row i then row_at rows.old.items row ++ label ∷ [] else row_at rows.old.items i)) }
     ensures unchanged { OnErr result ((i : ℕ) → row_at rows.new.items i ≡ row_at rows.old.items i) }
 {

@@ -1,6 +1,7 @@
 //! The labels of one key, where one alone takes no memory.
-ghost use Rattle.std.specs.Prelude.{◌≡◌, ◌<◌, ◌++◌, ◌∷◌, [], OnOk, OnErr};
+ghost use Rattle.std.specs.Prelude.{◌≡◌, ◌<◌, ◌≤◌, ◌++◌, ◌∷◌, [], OnOk, OnErr};
 ghost use Rattle.std.specs.List.{AllByRecursion};
+ghost use Rattle.chr_value.specs.Stores.{greatest_label};
 ghost use Rattle.chr_index.specs.Buckets.{drop_number};
 
 use chr_index::{Bucket, Matches};
@@ -41,7 +42,8 @@ impl<A: Allocator + Copy> Labels<A> {
 
     /// One label more, above the others. E01 where they could not grow, and are then unchanged.
     pub fn push(&mut self, alloc: A, label: Label) -> Result<(), AllocError>
-        requires { AllByRecursion (λ m. m < label) self.old }
+        requires below { AllByRecursion (λ m. m < label) self.old }
+        requires fits { label ≤ greatest_label }
         ensures ok { OnOk result (self.new ≡ self.old ++ label ∷ []) }
         ensures unchanged { OnErr result (self.new ≡ self.old) }
     {

@@ -4,7 +4,7 @@ use Rattle.chr_index.proofs.bucket.first_live.Goals as goal
 
 pub loop-place-preserved : goal.loop-place-preserved
 loop-place-preserved c =
-    let e = jump_in c.args.slots.now c.loop-place.place _ c.loop-place-test.true in
+    let e = c.jump.ensures.is ∙ jump_in c.args.slots.now c.loop-place.place _ c.loop-place-test.true in
     record {
       within = subst (λ (n : ℕ). c.loop-place.place + n ≤ length c.args.slots.now) (sym e) (jump_within c.args.slots.now c.loop-place.place c.loop-place.invariant.within c.requires.jumps);
       rest = c.loop-place.invariant.rest ∙ jump_living c.args.slots.now c.loop-place.place _ (ap (λ (n : ℕ). c.loop-place.place + n) e) c.requires.jumps;

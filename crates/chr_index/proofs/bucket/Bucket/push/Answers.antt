@@ -8,7 +8,7 @@ use Rattle.chr_index.proofs.bucket.Bucket.push.Goals.{then-not-is_below, else-no
 
 ready : (g : Over) (c : After-push g) → IsReady c.args.label c.args.self.now c.if-not-is_below.self-inside.slots.items c.if-not-is_below.self-inside.first
 ready g c = elim c.if-not-is_below.branch [
-  | then-not-is_below w ↦ rw w.self-inside-is (subst (λ (z : List Slot). IsReady c.args.label c.args.self.now z 0) (sym w.compact.ensures) (kept_ready c.args.label c.args.self.now c.self.inside.slots.items c.self.invariant.rising c.self.view_is c.requires))
+  | then-not-is_below w ↦ rw w.self-inside-is (subst (λ (z : List Slot). IsReady c.args.label c.args.self.now z 0) (sym w.compact.ensures) (kept_ready c.args.label c.args.self.now c.self.inside.slots.items c.self.invariant.rising c.self.view_is c.requires.below))
   | else-not-is_below w ↦ rw w.self-inside-is (record { bucket = c.self.invariant; below = subst (λ (z : List Slot). AllByRecursion (λ s. s.label < c.args.label) z) c.deref.ensures.value (c.is_below.ensures (search rules)); same = c.self.view_is })
 ]
 
