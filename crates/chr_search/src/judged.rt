@@ -170,7 +170,7 @@ fn judge_by<'v, A: Allocator + Copy>(trial: &'v Trial<A>, binding: &mut Binding<
 }
 
 /// The verdict on a trial, and what is kept of the binding of all variables where it is whole and there is memory for that.
-fn settled_on<A: Allocator + Copy>(trial: &Trial<A>) -> (Verdict, Option<Settled<A>>)
+pub fn settled_on<A: Allocator + Copy>(trial: &Trial<A>) -> (Verdict, Option<Settled<A>>)
     ensures verdict { IsVerdict trial.now result.0 }
     ensures settled { IfSome result.1 (IsSettledUnder trial.now) }
 {

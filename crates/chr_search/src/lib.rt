@@ -4,8 +4,8 @@
 //! are ordered by rule, head and labels place by place, a beginning before what it begins. A [`Search`] is
 //! an active label with a position in this order: a few numbers, so that it can be kept while others insert into the store
 //! and remove from it. [`candidate`](Search::candidate) makes the least admissible trial at or after the
-//! position, [`judge`] tells whether it misfits, is a part of an instance or is a whole one, and
-//! [`advance`](Search::advance) moves the search past what has been judged.
+//! position, [`judge`] tells whether it misfits, is a part of an instance or is a whole one, as [`settled_on`] does of a
+//! trial that stays where it is, and [`advance`](Search::advance) moves the search past what has been judged.
 //! [`pass_over`](Search::pass_over) does the same for all trials up to one that is whole, and makes none of them.
 //! [`pass_over_before`](Search::pass_over_before) does it before the active atom is entered, as if it were: where
 //! the whole trial removes that atom, its firing spares the store both the entering and the removal.
@@ -26,7 +26,7 @@ mod trial;
 
 pub use fitted::{Fitted, is_misfit_alone};
 pub use front::Front;
-pub use judged::{Judged, Verdict, judge};
+pub use judged::{Judged, Verdict, judge, settled_on};
 pub use position::Position;
 pub use search::{Ask, Instance, Passed, Search, Then, Whole};
 pub use trial::{Placed, Trial};

@@ -1,5 +1,5 @@
 -- Rows and columns: trial by trial, and what they are up to a place.
-use Rattle.std.proofs.Common.{◌≡◌, Bool, true, false, ◌==◌, true-eqb, ℕ, zero, suc, ◌+◌, ◌-◌, ◌<◌, ◌≤◌, List, [], ◌∷◌, ◌++◌, map, take, length, Some, get_or, slice_get, refl, sym, ◌∙◌, ap, subst, arith, Result, Ok, Err, IfOk, IfSome, Option, MatchOption, ◌↔◌, IsTrue}
+use Rattle.std.proofs.Common.{◌≡◌, Bool, true, false, ◌==◌, ℕ, zero, suc, ◌+◌, ◌-◌, ◌<◌, ◌≤◌, List, [], ◌∷◌, ◌++◌, map, take, length, Some, get_or, slice_get, refl, sym, ◌∙◌, ap, subst, arith, Result, Ok, Err, IfOk, IfSome, Option, MatchOption, ◌↔◌, IsTrue}
 use Rattle.chr_sheet.proofs.Words.{AllByRecursion, take_more, take-map, length-map, same_from_push, get_or-map, take_all, length_push, Placed, Trial, IsFormed, IsWholeUnder, at_heads, lengthened, trial_alone, Row, IsRow, trials_of, branch_trials, misfit, judged_part, AreMisfits, AreMisfitsUpTo, IsSettledAt, MustBeWhole, ⊤, heads_of, Simpagation, Misfit, Part, Whole, IsVerdict, IsSettledUnder, last_of, Head, Column, IsColumn, at_head, column_trials}
 use Rattle.std.proofs.lemmas.Bool.Decides.{nat_tests}
 use Rattle.std.proofs.lemmas.Option.{slice_get_read, slice_get_within, get_or_from_slice_get}
@@ -105,6 +105,9 @@ is_whole : (t : Trial) (v : Verdict) → length t.placed ≡ length (heads_of t.
 is_whole t Whole full not is = refl
 is_whole t Part full not is = absurd (omega (arith, is.left))
 is_whole t Misfit full not is = absurd (not is)
+
+pub must_be_whole : (t : Trial) → IsVerdict t Whole → MustBeWhole t
+must_be_whole t w v is = is_whole t v w.full (λ m. m.0 w) is
 
 -- it is told of a trial whether it is a misfit
 pub record IsTold (ts : List Trial) (i : ℕ) (t : Trial) (told : Bool) (binding : Places) : Type 0 where

@@ -1,9 +1,9 @@
 -- Judgements that are reported, one after another, and those of trials that are known to come next.
-use Rattle.std.proofs.Common.{◌≡◌, ◌≢◌, ◌↔◌, IsTrue, ℕ, suc, ◌+◌, ◌≤◌, Bool, true, false, not, nat_eq, List, [], ◌∷◌, ◌++◌, map, length, Option, Some, None, MatchOption, refl, sym, ◌∙◌, ap, ap₂, subst, arith, IfSome, zero, ◌<◌, get_or, is_some, Bor}
+use Rattle.std.proofs.Common.{◌≡◌, ◌≢◌, ◌↔◌, IsTrue, ℕ, suc, ◌+◌, ◌≤◌, Bool, true, false, not, nat_eq, List, [], ◌∷◌, ◌++◌, map, length, Option, Some, None, MatchOption, refl, sym, ◌∙◌, ap, ap₂, subst, arith, IfSome, ◌-◌, slice_get, is_some, Bor}
 use Rattle.std.specs.Option.{option_eq, option_copied}
 use Rattle.std.proofs.lemmas.Bool.{eqb-true, not-false}
 use Rattle.std.proofs.lemmas.Bool.Decides.{nat_tests}
-use Rattle.chr_sheet.proofs.Words.{map_push, same_from_push, map-append, append-nil, Simpagation, rule_at, heads_of, Whole, just_after, past, begins, SearchState, Space, older, IsNext, IsTrial, NoneLeft, Child, join_in, Placed, Trial, position, labels, IsTrialOf, IsFormed, IsPart, Judgement, IsVerdict, lengthened, MayEnd, IsEndFrom, IsFront, IsPlacedAfter, trial_alone, ComeAfter, Row, misfit, judged_part, trials_of, JudgedSheet, IsRow, judgements_of, listed, IsNextTrial, IsFrontOf, Reports, done, moves, passes, place_after, AreNextInOrder, after_all, IsFireable, AllByRecursion, Head, Column, at_head, column_trials, last_of, others_at, others_in}
+use Rattle.chr_sheet.proofs.Words.{map_push, same_from_push, map-append, append-nil, Simpagation, rule_at, heads_of, Whole, just_after, past, begins, SearchState, Space, older, IsNext, IsTrial, NoneLeft, Child, join_in, Placed, Trial, position, labels, IsTrialOf, IsFormed, IsPart, Judgement, IsVerdict, lengthened, MayEnd, IsEndFrom, IsFront, IsPlacedAfter, trial_alone, ComeAfter, Row, misfit, judged_part, trials_of, JudgedSheet, IsRow, judgements_of, listed, IsNextTrial, IsFrontOf, Reports, done, moves, passes, place_after, AreNextInOrder, after_all, IsFireable, AllByRecursion, Head, Column, at_head, column_trials, last_of, judged_at, judged_in}
 use Rattle.chr_model.specs.Stores.{Store, atom_at}
 use Rattle.chr_plan.specs.Plans.{PlanList, ArePlans}
 use Rattle.chr_search.specs.declared.judged.Verdict.{Verdict}
@@ -30,9 +30,9 @@ use Rattle.chr_store.specs.Labels.{LabelledStore, IsLabelled}
 use Rattle.chr_search.proofs.After.{come_after}
 use Rattle.chr_search.proofs.PassingOver.{fits_at_heads}
 use Rattle.chr_guard.proofs.Steps.{all_push}
-use Rattle.chr_sheet.specs.declared.others.Others.{Others}
+use Rattle.chr_sheet.specs.declared.trials.Trials.{Trials as CodeTrials}
 use Rattle.chr_search.proofs.PlanByPlan.{alike_next}
-use Rattle.chr_sheet.proofs.Keeping.{all_both}
+use Rattle.chr_sheet.proofs.Keeping.{all_both, judged_pushed}
 use Rattle.chr_sheet.proofs.NextBeside.{active_alone}
 use Rattle.chr_search.specs.declared.judged.Verdict.TheVariants as verdicts
 
@@ -454,13 +454,13 @@ reports_all s store w place (j ∷ js) more right other next =
     (moves place (after_all (after_judging j) js) j js (length js) next.0 other.0 rest.0, rest.1)
 
 -- the judgements that are reported, and the one that is whole
-pub told_all : (s : Space) (store : LabelledStore) → IsWellFormed s store → (place after : List ℕ) (sheet : JudgedSheet) (js : List Judgement) (count : ℕ) → js ≡ sheet.others
-    → AllByRecursion (λ j. IsVerdict j.trial j.verdict) js → AllByRecursion (λ j. j.verdict ≢ verdicts.Whole) js → AreNextInOrder s place (map (λ j. j.trial) (judgements_of sheet)) → after ≡ after_all place js → count ≡ length js
+pub told_all : (s : Space) (store : LabelledStore) → IsWellFormed s store → (place after : List ℕ) (sheet : JudgedSheet) (count : ℕ)
+    → AllByRecursion (λ j. IsVerdict j.trial j.verdict) sheet.others → AllByRecursion (λ j. j.verdict ≢ verdicts.Whole) sheet.others → AreNextInOrder s place (map (λ j. j.trial) (judgements_of sheet)) → after ≡ after_all place sheet.others → count ≡ length sheet.others
     → Reports s place sheet.others count after × AreNextInOrder s after (map (λ j. j.trial) (listed sheet.whole))
-told_all s store w place after sheet js count are right other next goes counted =
-    let split : map (λ (j : Judgement). j.trial) (judgements_of sheet) ≡ trials_judged js ++ map (λ (j : Judgement). j.trial) (listed sheet.whole) = map-append (λ (j : Judgement). j.trial) sheet.others (listed sheet.whole) ∙ ap (λ ks. trials_judged ks ++ map (λ (j : Judgement). j.trial) (listed sheet.whole)) (sym are) in
-    let all = reports_all s store w place js (map (λ (j : Judgement). j.trial) (listed sheet.whole)) right other (subst (AreNextInOrder s place) split next) in (
-      subst (λ ks. Reports s place ks count after) are (subst (λ n. Reports s place js n after) (sym counted) (subst (Reports s place js (length js)) (sym goes) all.0)),
+told_all s store w place after sheet count right other next goes counted =
+    let split : map (λ (j : Judgement). j.trial) (judgements_of sheet) ≡ trials_judged sheet.others ++ map (λ (j : Judgement). j.trial) (listed sheet.whole) = map-append (λ (j : Judgement). j.trial) sheet.others (listed sheet.whole) in
+    let all = reports_all s store w place sheet.others (map (λ (j : Judgement). j.trial) (listed sheet.whole)) right other (subst (AreNextInOrder s place) split next) in (
+      subst (λ n. Reports s place sheet.others n after) (sym counted) (subst (Reports s place sheet.others (length sheet.others)) (sym goes) all.0),
       subst (λ p. AreNextInOrder s p (map (λ (j : Judgement). j.trial) (listed sheet.whole))) (sym goes) all.1,
     )
 
@@ -477,25 +477,41 @@ all_trials : (s : Space) (place : List ℕ) (js : List Judgement) → AreNextInO
 all_trials s place [] next = tt
 all_trials s place (j ∷ js) next = (next_trial s place (position j.trial) next.0.0, all_trials s (just_after (position j.trial)) js next.1)
 
-all_here : {Z : Type 0} (P : Judgement → Type 0) (xs : List (Others Z)) (i : ℕ) (x : Others Z) → i < length xs → x ≡ get_or xs i x → AllByRecursion P (others_in xs) → AllByRecursion P (others_at x)
-all_here P [] i x h e a = absurd (omega arith)
-all_here P (y ∷ xs) zero x h e a = subst (λ z. AllByRecursion P (others_at z)) (sym e) ((all_both P (others_at y) (others_in xs)).0 a).0
-all_here P (y ∷ xs) (suc i) x h e a = all_here P xs i x (omega arith) e ((all_both P (others_at y) (others_in xs)).0 a).1
-
-pub admissible_here : {Z : Type 0} (s : Space) (place : List ℕ) (sheet : JudgedSheet) (xs : List (Others Z)) (i : ℕ) (x : Others Z) → others_in xs ≡ sheet.others → i < length xs → x ≡ get_or xs i x
-    → AreNextInOrder s place (map (λ (j : Judgement). j.trial) (judgements_of sheet)) → AllByRecursion (λ j. IsTrial s (position j.trial)) (others_at x)
-admissible_here s place sheet xs i x are h e next =
-    let all = ((all_both (λ (j : Judgement). IsTrial s (position j.trial)) sheet.others (listed sheet.whole)).0 (all_trials s place (judgements_of sheet) next)).0 in
-    all_here (λ j. IsTrial s (position j.trial)) xs i x h e (subst (AllByRecursion (λ (j : Judgement). IsTrial s (position j.trial))) (sym are) all)
+-- and those of the last place
+pub admissible_last : {Z : Type 0} (s : Space) (place : List ℕ) (sheet : JudgedSheet) (xs before : List (CodeTrials Z)) (x : CodeTrials Z) → judged_in xs ≡ sheet.others → xs ≡ before ++ x ∷ []
+    → AreNextInOrder s place (map (λ (j : Judgement). j.trial) (judgements_of sheet)) → AllByRecursion (λ j. IsTrial s (position j.trial)) (judged_at x)
+admissible_last s place sheet xs before x are e next =
+    let P : Judgement → Type 0 = λ j. IsTrial s (position j.trial) in
+    let all = ((all_both P sheet.others (listed sheet.whole)).0 (all_trials s place (judgements_of sheet) next)).0 in
+    ((all_both P (judged_in before) (judged_at x)).0 (subst (AllByRecursion P) (sym are ∙ judged_pushed before xs x e) all)).1
 
 -- ---- where the search goes on
 
-pub after_both : (place : List ℕ) (js ks : List Judgement) → after_all place (js ++ ks) ≡ after_all (after_all place js) ks
+-- the last one, and those before it
+pub last_split : {X : Type 0} (xs : List X) (x : X) → Some x ≡ slice_get xs (length xs - 1) → (before : List X) × (xs ≡ before ++ x ∷ [])
+last_split [] x e = absurd (cc)
+last_split (y ∷ []) x e = ([], ap (λ z. z ∷ []) (some_is y x (sym e)))
+last_split (y ∷ z ∷ zs) x e =
+    let more = last_split (z ∷ zs) x (e ∙ ap (slice_get (y ∷ z ∷ zs)) (let k : length (y ∷ z ∷ zs) - 1 ≡ suc (length (z ∷ zs) - 1) = omega arith in k)) in
+    (y ∷ more.0, ap (λ ws. y ∷ ws) more.1)
+
+pub none_last : {X : Type 0} (xs : List X) (last : Option (Bor X)) → last ≡ None → option_copied last ≡ slice_get xs (length xs - 1) → xs ≡ []
+none_last [] last none e = refl
+none_last (y ∷ []) last none e = absurd (cc (sym e ∙ ap option_copied none))
+none_last (y ∷ z ∷ zs) last none e =
+    let there : slice_get (y ∷ z ∷ zs) (suc (length (z ∷ zs) - 1)) ≡ None = ap (slice_get (y ∷ z ∷ zs)) (let k : suc (length (z ∷ zs) - 1) ≡ length (y ∷ z ∷ zs) - 1 = omega arith in k) ∙ sym e ∙ ap option_copied none in
+    let rest : z ∷ zs ≡ [] = none_last (z ∷ zs) None refl (sym there) in
+    absurd (cc)
+
+after_both : (place : List ℕ) (js ks : List Judgement) → after_all place (js ++ ks) ≡ after_all (after_all place js) ks
 after_both place [] ks = refl
 after_both place (j ∷ js) ks = after_both (after_judging j) js ks
 
 after_last : (place : List ℕ) (js all : List Judgement) (j : Judgement) → all ≡ js ++ j ∷ [] → after_all place all ≡ after_judging j
 after_last place js all j e = ap (after_all place) e ∙ after_both place js (j ∷ [])
+
+pub after_place : {Z : Type 0} (place : List ℕ) (xs before : List (CodeTrials Z)) (x : CodeTrials Z) (js : List Judgement) → judged_in xs ≡ js → xs ≡ before ++ x ∷ [] → after_all (after_all place (judged_in before)) (judged_at x) ≡ after_all place js
+after_place place xs before x js are e = sym (after_both place (judged_in before) (judged_at x)) ∙ ap (after_all place) (sym (judged_pushed before xs x e) ∙ are)
 
 -- after the last trial of a row
 lasts_split : {X : Type 0} (f : X → Placed) (row : Row) (xs before : List X) (last : X) → map f xs ≡ row.lasts → xs ≡ before ++ last ∷ [] → trials_of row ≡ map (lengthened row.part) (map f before) ++ lengthened row.part (f last) ∷ []

@@ -3,6 +3,5 @@ pub mod Columns
 pub mod Alone
 pub mod Kept
 pub mod Settings
-pub mod Others
 pub mod Sheets
 pub mod Beside

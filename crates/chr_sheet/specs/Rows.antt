@@ -1,5 +1,5 @@
 -- Trials and judgements, where those that differ in their last label alone are kept together.
-use Rattle.std.specs.Prelude.{⊤, ◌≡◌, ℕ, ◌<◌, ◌≤◌, ◌+◌, List, [], ◌∷◌, ◌++◌, length, map, take, Option, Some, None, MatchOption, slice_get}
+use Rattle.std.specs.Prelude.{⊤, ◌≡◌, ◌≢◌, ℕ, ◌<◌, ◌≤◌, ◌+◌, List, [], ◌∷◌, ◌++◌, length, map, take, Option, Some, None, MatchOption, slice_get}
 use Rattle.std.specs.List.{AllByRecursion}
 use Rattle.chr_value.specs.Atoms.{Value}
 use Rattle.chr_plan.specs.Orders.{heads_of}
@@ -68,9 +68,12 @@ listed (Some j) = j ∷ []
 abbrev pub judgements_of : JudgedSheet → List Judgement
 judgements_of sheet = sheet.others ++ listed sheet.whole
 
--- the last one is whole where it is kept apart, and they can be counted
+-- the last one is whole where it is kept apart; no other is, and their verdicts are right; and all can
+-- be counted
 pub record IsJudgedSheet (sheet : JudgedSheet) : Type 0 where
   pub whole : MatchOption sheet.whole ⊤ (λ w. w.verdict ≡ verdicts.Whole)
+  pub other : AllByRecursion (λ j. j.verdict ≢ verdicts.Whole) sheet.others
+  pub right : AreRight sheet.others
   pub few : length (judgements_of sheet) < 18446744073709551616
 
 -- what is kept before a trial

@@ -1,6 +1,5 @@
 -- The next trials of a search, read, judged and reported together.
-use Rattle.std.specs.Prelude.{⊤, ◌≡◌, ◌≢◌, ◌⊎◌, ◌↔◌, ℕ, zero, suc, ◌+◌, ◌≤◌, Bool, false, IsTrue, List, [], ◌∷◌, ◌++◌, length, Option, Some, None, MatchOption}
-use Rattle.std.specs.List.{AllByRecursion}
+use Rattle.std.specs.Prelude.{⊤, ◌≡◌, ◌≢◌, ◌⊎◌, ◌↔◌, ℕ, zero, suc, ◌+◌, ◌≤◌, Bool, false, IsTrue, List, [], ◌∷◌, ◌++◌, length, Option, Some, None}
 use Rattle.chr_search.specs.declared.judged.Verdict.TheVariants.{Whole}
 use Rattle.chr_search.specs.declared.front.Front.{Front}
 use Rattle.chr_search.specs.Fronts.{IsFront}
@@ -9,7 +8,6 @@ use Rattle.chr_search.specs.Trials.{Space, IsNext, NoneLeft}
 use Rattle.chr_search.specs.Verdicts.{Trial, position, labels, IsTrialOf}
 use Rattle.chr_search.specs.Answers.{after_judging}
 use Rattle.chr_search.specs.Judged.{Judgement}
-use Rattle.chr_sheet.specs.Rows.{listed}
 
 -- a trial is the least admissible one at or after a position
 abbrev pub IsNextTrial : Space → List ℕ → Trial → Type 0
@@ -47,13 +45,6 @@ AreJudgedInOrder [] (j ∷ js) = ⊥
 AreJudgedInOrder (t ∷ ts) (j ∷ js) =
     (j.trial ≡ t) ×
     (((j.verdict ≡ Whole) × (js ≡ [])) ⊎ ((j.verdict ≢ Whole) × AreJudgedInOrder ts js))
-
--- trials are judged in order: none is whole, and the judgements come after those before them; or
--- the last one judged is
-abbrev pub AreJudgedUpTo : List Trial → List Judgement → List Judgement → Option Judgement → Type 0
-AreJudgedUpTo ts before after whole =
-    (js : List Judgement) × (after ≡ before ++ js) × AreJudgedInOrder ts (js ++ listed whole) ×
-    AllByRecursion (λ j. j.verdict ≢ Whole) js × MatchOption whole ⊤ (λ w. w.verdict ≡ Whole)
 
 -- For each judgement in order: where it is of the next trial, and isn't whole, the search moves on
 -- after it; else it is passed over. So many were reported, and this is where the search goes on.

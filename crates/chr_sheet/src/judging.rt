@@ -1,17 +1,15 @@
 //! Judging the trials of a sheet.
-ghost use Rattle.std.specs.Prelude.{◌≡◌, ◌⊎◌, ◌<◌, ◌≤◌, ⊤, ◌∷◌, ◌++◌, [], length, take, IfOk, IfSome, OnOk, MatchOption, IsTrue, slice_get};
+ghost use Rattle.std.specs.Prelude.{◌≡◌, ◌≢◌, ◌<◌, ◌≤◌, ⊤, ◌++◌, length, take, Some, IfOk, IfSome, OnOk, MatchOption, IsTrue, slice_get};
+ghost use Rattle.std.specs.List.{AllByRecursion};
 ghost use Rattle.std.specs.Option.{option_copied};
 ghost use Rattle.chr_search.specs.declared.judged.Verdict.TheVariants as verdicts;
 ghost use Rattle.chr_search.specs.Judged.{IsSettledUnder};
 ghost use Rattle.chr_sheet.specs.Columns.{column_trials};
-ghost use Rattle.chr_sheet.specs.Kept.{judged_at, trials_at, trials_in};
-ghost use Rattle.chr_sheet.specs.Others.{others_in};
-ghost use Rattle.chr_sheet.specs.Rows.{judgements_of, kept_before, trials_of, AreMisfitsUpTo, AreRight, IsSettledAt, MustBeWhole};
-ghost use Rattle.chr_sheet.specs.Sheets.{AreJudgedInOrder, AreJudgedUpTo};
+ghost use Rattle.chr_sheet.specs.Kept.{judged_at, judged_in, trials_at, trials_in};
+ghost use Rattle.chr_sheet.specs.Rows.{judgements_of, trials_of, AreMisfitsUpTo, AreRight, IsSettledAt, MustBeWhole};
+ghost use Rattle.chr_sheet.specs.Sheets.{AreJudgedInOrder};
 
 use crate::column::{Column, rule_of};
-use crate::not_whole::{NotWhole, Several};
-use crate::others::Others;
 use crate::row::Row;
 use crate::trials::Trials;
 use chr_guard::{Binding, Settled};
@@ -25,31 +23,34 @@ pub trait Watch {
     fn before_judging(&self);
 }
 
-/// Judgements of trials in order. The last one may be whole, and no other is.
+/// Judgements of trials in order. The last one may be whole, and no other is: the trials of the others are kept in the vector
+/// that they were read into.
 #[derive(Drop)]
 pub struct Judgements<A: Allocator> {
-    others: Vec<Others<A>, A>,
+    others: Vec<Trials<A>, A>,
     whole: Option<Judged<A>>,
 }
 
 impl<A: Allocator> Model for Judgements<A> {
     ghost use Rattle.chr_rule.specs.Codes.{rule_codes};
-    ghost use Rattle.chr_sheet.specs.Others.{others_in};
+    ghost use Rattle.chr_sheet.specs.Kept.{judged_in};
     ghost use Rattle.chr_sheet.specs.Rows.{JudgedSheet, IsJudgedSheet};
 
     ghost Value = { JudgedSheet };
 
     ghost coded = { Prim.hlevel rule_codes };
 
-    ghost view = { λ j. record { others = others_in j.others.items; whole = j.whole } };
+    ghost view = { λ j. record { others = judged_in j.others.items; whole = j.whole } };
 
-    ghost invariant = { λ j. IsJudgedSheet (record { others = others_in j.others.items; whole = j.whole }) };
+    ghost invariant = { λ j. IsJudgedSheet (record { others = judged_in j.others.items; whole = j.whole }) };
 }
 
 impl<A: Allocator + Copy> Judgements<A> {
-    /// Those that aren't whole.
-    pub fn others(&self) -> &[Others<A>]
-        ensures others { others_in result.now ≡ self.now.others }
+    /// Those that aren't whole, by their trials.
+    pub fn others(&self) -> &[Trials<A>]
+        ensures others { judged_in result.now ≡ self.now.others }
+        ensures right { AreRight self.now.others }
+        ensures other { AllByRecursion (λ j. j.verdict ≢ verdicts.Whole) self.now.others }
         ensures few { length (judgements_of self.now) < 18446744073709551616 }
     {
         &self.others
@@ -70,17 +71,26 @@ impl<A: Allocator + Copy> Judgements<A> {
         self.whole
     }
 
-    /// How many they are.
-    pub fn len(&self) -> usize
-        ensures { result ≡ length (judgements_of self.now) }
+    /// How many of them aren't whole.
+    pub(crate) fn count_others(&self) -> usize
+        ensures { result ≡ length self.now.others }
     {
         let mut count = 0;
         for some in self.others() {
             count += some.len();
         }
+        count
+    }
+
+    /// How many they are.
+    pub fn len(&self) -> usize
+        ensures { result ≡ length (judgements_of self.now) }
+    {
+        // For the proof: they can be counted.
+        let _others = self.others();
         match self.whole() {
-            None => count,
-            Some(_) => count + 1,
+            None => self.count_others(),
+            Some(_) => self.count_others() + 1,
         }
     }
 }
@@ -141,23 +151,27 @@ impl<A: Allocator + Copy> Column<A> {
     }
 }
 
-/// How many of these trials aren't whole, before the first that is, and what is kept of that one's binding, where there is
-/// memory for that. Where there is one trial alone, both are left open.
+/// Judges trials that are kept in one place, up to the first that is whole. Returns how many of them come before it, and what is
+/// kept of its binding, where there is memory for that.
 #[inline(always)]
-fn count_others<A: Allocator + Copy, W: Watch>(
+fn judge_some<A: Allocator + Copy, W: Watch>(
     alloc: A,
-    trials: &Trials<A>,
+    trials: &mut Trials<A>,
     watch: &W,
 ) -> (usize, Option<Settled<A>>)
-    ensures few { result.0 ≤ length (trials_at trials.now) }
-    ensures right { AreRight (take result.0 (judged_at trials.now)) }
-    ensures next { MatchOption (slice_get (trials_at trials.now) result.0) ⊤ (λ t. (trials_at trials.now ≡ t ∷ []) ⊎ MustBeWhole t) }
-    ensures settled { IfSome result.1 (IsSettledAt (trials_at trials.now) result.0) }
+    ensures same { trials_at trials.new ≡ trials_at trials.old }
+    ensures few { result.0 ≤ length (trials_at trials.new) }
+    ensures right { AreRight (take result.0 (judged_at trials.new)) }
+    ensures next { MatchOption (slice_get (trials_at trials.new) result.0) ⊤ MustBeWhole }
+    ensures settled { IfSome result.1 (IsSettledAt (trials_at trials.new) result.0) }
 {
     match trials {
-        Trials::One(_) => {
+        Trials::One(single) => {
             watch.before_judging();
-            (0, None)
+            match single.judge() {
+                (Verdict::Whole, settled) => (0, settled),
+                _ => (1, None),
+            }
         }
         Trials::Row(row) => row.count_misfits(alloc, watch),
         Trials::Branch(row) => {
@@ -171,80 +185,43 @@ fn count_others<A: Allocator + Copy, W: Watch>(
     }
 }
 
-/// Puts trials that aren't whole after the others. An `Err` is E01.
-fn push_several<A: Allocator + Copy>(
-    trials: Option<Trials<A>>,
-    others: &mut Vec<Others<A>, A>,
-) -> Result<(), AllocError>
-    requires { AreRight (kept_before judged_at trials) }
-    ensures { OnOk result (others_in others.new.items ≡ others_in others.old.items ++ kept_before judged_at trials) }
-{
-    if let Some(trials) = trials {
-        others.push(Others::Several(Several::of(trials)))?;
-    }
-    Ok(())
-}
-
-/// Judges a trial, unless what is kept of its binding shows that it is whole. Returns the judgement where it is, and else puts
-/// it after the others. An `Err` is E01.
-#[inline(always)]
-fn judge_one<A: Allocator + Copy>(
-    trial: Trial<A>,
-    settled: Option<Settled<A>>,
-    others: &mut Vec<Others<A>, A>,
-) -> Result<Option<Judged<A>>, AllocError>
-    requires { IfSome settled (IsSettledUnder trial) }
-    ensures judged { IfOk result (λ whole. AreJudgedUpTo (trial ∷ []) (others_in others.old.items) (others_in others.new.items) whole) }
-    ensures sure { IfOk result (λ whole. MatchOption whole (MustBeWhole trial → ⊥) (λ _. ⊤)) }
+/// The judgement of a trial that is whole. It is judged once more where nothing is kept of its binding.
+fn whole_of<A: Allocator + Copy>(trial: Trial<A>, settled: Option<Settled<A>>) -> Judged<A>
+    requires whole { MustBeWhole trial }
+    requires settled { IfSome settled (IsSettledUnder trial) }
+    ensures trial { result.trial ≡ trial }
+    ensures verdict { result.verdict ≡ verdicts.Whole }
 {
     if let Some(settled) = settled {
-        return Ok(Some(Judged::whole(trial, settled)));
+        return Judged::whole(trial, settled);
     }
     let judged = chr_search::judge(trial);
-    if let Verdict::Whole = judged.verdict() {
-        return Ok(Some(judged));
-    }
-    others.push(Others::One(NotWhole::of(judged)))?;
-    Ok(None)
+    // For the proof: the verdict is the right one.
+    let _right = judged.verdict();
+    judged
 }
 
-/// Judges trials that are kept in one place, up to the first that is whole. Returns the judgement of that one, and puts the
-/// others after the others. An `Err` is E01.
-#[inline(always)]
-fn judge_some<A: Allocator + Copy, W: Watch>(
+/// Takes the trial after so many of these out, which is whole, and puts those before it after the others. Returns its judgement.
+/// An `Err` is E01.
+fn take_whole<A: Allocator + Copy>(
     alloc: A,
     trials: Trials<A>,
-    watch: &W,
-    others: &mut Vec<Others<A>, A>,
-) -> Result<Option<Judged<A>>, AllocError>
-    ensures { IfOk result (λ whole. AreJudgedUpTo (trials_at trials) (others_in others.old.items) (others_in others.new.items) whole) }
+    count: usize,
+    settled: Option<Settled<A>>,
+    others: &mut Vec<Trials<A>, A>,
+) -> Result<Judged<A>, AllocError>
+    requires within { count < length (trials_at trials) }
+    requires whole { MatchOption (slice_get (trials_at trials) count) ⊤ MustBeWhole }
+    requires settled { IfSome settled (IsSettledAt (trials_at trials) count) }
+    ensures others { OnOk result (judged_in others.new.items ≡ judged_in others.old.items ++ take count (judged_at trials)) }
+    ensures trial { IfOk result (λ whole. slice_get (trials_at trials) count ≡ Some whole.trial) }
+    ensures verdict { IfOk result (λ whole. whole.verdict ≡ verdicts.Whole) }
 {
-    let (count, settled) = count_others(alloc, &trials, watch);
-    if count == trials.len() {
-        push_several(Some(trials), others)?;
-        return Ok(None);
-    }
     let (before, trial) = trials.split_at(alloc, count)?;
-    push_several(before, others)?;
-    judge_one(trial, settled, others)
-}
-
-/// Judges the trials of a sheet in order, up to the first that is whole. Returns the judgement of that one, and puts the others
-/// after the others. An `Err` is E01.
-fn judge_all<A: Allocator + Copy, W: Watch>(
-    alloc: A,
-    sheet: Vec<Trials<A>, A>,
-    watch: &W,
-    others: &mut Vec<Others<A>, A>,
-) -> Result<Option<Judged<A>>, AllocError>
-    ensures { IfOk result (λ whole. AreJudgedUpTo (trials_in sheet.items) (others_in others.old.items) (others_in others.new.items) whole) }
-{
-    for trials in sheet {
-        if let Some(whole) = judge_some(alloc, trials, watch, others)? {
-            return Ok(Some(whole));
-        }
+    if let Some(before) = before {
+        others.push(before)?;
     }
-    Ok(None)
+    Ok(whole_of(trial, settled))
 }
 
 /// Whether these trials can be counted, as those of any memory can.
@@ -272,7 +249,23 @@ pub fn judge<A: Allocator + Copy, W: Watch>(
     if !can_count(&sheet) {
         return Err(AllocError);
     }
-    let mut others = Vec::with_capacity(alloc, sheet.len())?;
-    let whole = judge_all(alloc, sheet, watch, &mut others)?;
-    Ok(Judgements { others, whole })
+    let mut others = sheet;
+    let mut place = 0;
+    while place < others.len() {
+        let some = &mut others[place];
+        let (count, settled) = judge_some(alloc, some, watch);
+        if count < some.len() {
+            others.truncate(place + 1);
+            let Some(trials) = others.pop() else {
+                unreachable!();
+            };
+            let whole = Some(take_whole(alloc, trials, count, settled, &mut others)?);
+            return Ok(Judgements { others, whole });
+        }
+        place += 1;
+    }
+    Ok(Judgements {
+        others,
+        whole: None,
+    })
 }

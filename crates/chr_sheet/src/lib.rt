@@ -16,29 +16,29 @@
 //! At rules of one head, trials of the active label alone lie one after another too. They are kept as a [`Column`]: the first of
 //! them, the heads of the others by their numbers, and the program that has them, which is shared. Their atom is kept once.
 //!
+//! Trials are judged where they are kept: those before the first that is whole stay there as they were read. A trial that is
+//! kept alone is marked where it is a misfit; a part has no mark.
+//!
 //! - `Rows`: rows and branches of trials.
 //! - `Columns`: columns of trials.
-//! - `Kept`: which trials are kept.
-//! - `Others`: which judgements are kept.
+//! - `Kept`: which trials and judgements are kept.
 //! - `Settings`: what a search looks through.
 //! - `Sheets`: what is read, judged and reported.
 #![tactic(auto)]
 
 mod column;
 mod judging;
-mod not_whole;
-mod others;
 mod reading;
 mod reporting;
 mod row;
 mod setting;
+mod single;
 mod trials;
 
 pub use column::Column;
 pub use judging::{Judgements, Watch, judge};
-pub use not_whole::{NotWhole, Several};
-pub use others::Others;
 pub use reading::read;
 pub use reporting::{Reported, report, report_next};
 pub use row::Row;
+pub use single::Single;
 pub use trials::Trials;

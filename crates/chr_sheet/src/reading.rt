@@ -20,6 +20,7 @@ ghost use Rattle.chr_sheet.specs.Sheets.{AreNext, AreNextTogether, IsNextTrial};
 use crate::column::{Column, OneHead};
 use crate::row::Row;
 use crate::setting::Setting;
+use crate::single::Single;
 use crate::trials::Trials;
 use chr_guard::Binding;
 use chr_plan::Plans;
@@ -183,7 +184,7 @@ fn in_column<A: Allocator + Copy>(
     let pred = first.placed()[0].atom.pred();
     let more = next_heads(alloc, program, pred, after, most - 1)?;
     if more.is_empty() {
-        return Ok(Trials::One(first));
+        return Ok(Trials::One(Single::of(first)));
     }
     let program = Arc::try_clone(program)?;
     Ok(Trials::Column(Column::new(first, program, more)))
@@ -215,7 +216,7 @@ fn in_branch<'s, A: Allocator + Copy>(
     let is_alone = placed.len() == 1;
     let mut found = first_end(&part, placed, 0, active, setting, binding);
     let Some(found) = &mut found else {
-        return Ok((Trials::One(part), is_alone));
+        return Ok((Trials::One(Single::of(part)), is_alone));
     };
     let first = found.1;
     let most = most - 1;
@@ -246,7 +247,7 @@ fn in_turn<'s, A: Allocator + Copy>(
     ensures last { IfOk result (λ made. IsTrue made.1 → EndHead (space_in setting.now active) (trials_at made.0)) }
 {
     if most == 1 {
-        return Ok((Trials::One(first), false));
+        return Ok((Trials::One(Single::of(first)), false));
     }
     let heads = first.rule().heads();
     if heads == 1 {
@@ -264,7 +265,7 @@ fn in_turn<'s, A: Allocator + Copy>(
     let mut beside = second_beside(&first, active, setting, binding);
     // Where the rule has two heads, its full trials at one of them differ in their last label alone.
     let Some(beside) = &mut beside else {
-        return Ok((Trials::One(first), heads == 2));
+        return Ok((Trials::One(Single::of(first)), heads == 2));
     };
     let second = beside.1;
     let (part, last) = first.split_last();
@@ -310,7 +311,12 @@ fn go_behind<A: Allocator + Copy>(
         return;
     }
     match trials {
-        Trials::One(trial) => search.go_after(trial, setting.program, setting.plans, setting.store),
+        Trials::One(single) => search.go_after(
+            single.trial(),
+            setting.program,
+            setting.plans,
+            setting.store,
+        ),
         Trials::Column(column) => {
             let (number, head) = column.last();
             search.go_past_alone(number, head);

@@ -9,17 +9,16 @@ ghost use Rattle.chr_search.specs.Fronts.{MayEnd};
 ghost use Rattle.chr_search.specs.Positions.{just_after};
 ghost use Rattle.chr_search.specs.Trials.{Space, older, IsNext, IsTrial};
 ghost use Rattle.chr_search.specs.Verdicts.{IsTrialOf, position};
-ghost use Rattle.chr_sheet.specs.Others.{others_at};
 ghost use Rattle.chr_rule.specs.Rules.{rule_at};
 ghost use Rattle.chr_sheet.specs.Columns.{column_trials};
+ghost use Rattle.chr_sheet.specs.Kept.{judged_at};
 ghost use Rattle.chr_sheet.specs.Alone.{IsAloneIn, IsAloneOf, place_past};
-ghost use Rattle.chr_sheet.specs.Rows.{judged_part, judgements_of, misfit, trials_of};
+ghost use Rattle.chr_sheet.specs.Rows.{judged_part, judgements_of, misfit, trials_of, AreRight};
 ghost use Rattle.chr_sheet.specs.Settings.{space_in, HasPlans};
 ghost use Rattle.chr_sheet.specs.Sheets.{AreNextInOrder, IsFireable, IsFrontOf, Reports, after_all, place_after};
 
 use crate::column::{Column, rule_of};
 use crate::judging::Judgements;
-use crate::others::Others;
 use crate::row::Row;
 use crate::setting::Setting;
 use crate::trials::Trials;
@@ -292,22 +291,20 @@ fn pass_one<A: Allocator + Copy>(
 /// Moves a search over judgements that are kept in one place. Returns how many of their trials were the next one in their turn.
 fn pass_some<'s, A: Allocator + Copy>(
     search: &mut Search,
-    some: &Others<A>,
+    some: &Trials<A>,
     setting: &Setting<'s, A>,
     binding: &mut Binding<'s, A>,
 ) -> usize
-    requires { HasPlans setting.now }
+    requires plans { HasPlans setting.now }
+    requires right { AreRight (judged_at some.now) }
     ensures label { search.new.label ≡ search.old.label }
-    ensures reports { Reports (space_in setting.now search.old.label) search.old.place (others_at some.now) result search.new.place }
+    ensures reports { Reports (space_in setting.now search.old.label) search.old.place (judged_at some.now) result search.new.place }
 {
     match some {
-        Others::One(one) => pass_one(search, one.trial(), one.verdict(), setting),
-        Others::Several(several) => match several.trials() {
-            Trials::One(one) => pass_one(search, one, Verdict::Part, setting),
-            Trials::Row(row) => pass_misfits(search, row, setting, binding),
-            Trials::Branch(row) => pass_branch(search, row, setting, binding),
-            Trials::Column(column) => pass_alone(search, column, setting),
-        },
+        Trials::One(one) => pass_one(search, one.trial(), one.verdict(), setting),
+        Trials::Row(row) => pass_misfits(search, row, setting, binding),
+        Trials::Branch(row) => pass_branch(search, row, setting, binding),
+        Trials::Column(column) => pass_alone(search, column, setting),
     }
 }
 
@@ -354,8 +351,6 @@ pub fn report<A: Allocator + Copy>(
     let mut binding = Binding::free(0);
     let mut count = 0;
     for some in judgements.others() {
-        // For the proof: the verdicts are the right ones.
-        some.are_right();
         count += pass_some(search, some, &setting, &mut binding);
     }
     Reported {
@@ -386,19 +381,17 @@ fn go_past_column<A: Allocator + Copy>(search: &mut Search, column: &Column<A>)
 }
 
 /// Moves a search past judgements that are kept in one place, as if each of their trials had come next.
-fn go_past_some<A: Allocator + Copy>(search: &mut Search, some: &Others<A>)
-    requires { (s : Space) × (s.active ≡ search.old.label) × AllByRecursion (λ j. IsTrial s (position j.trial)) (others_at some.now) }
+fn go_past_some<A: Allocator + Copy>(search: &mut Search, some: &Trials<A>)
+    requires trials { (s : Space) × (s.active ≡ search.old.label) × AllByRecursion (λ j. IsTrial s (position j.trial)) (judged_at some.now) }
+    requires right { AreRight (judged_at some.now) }
     ensures label { search.new.label ≡ search.old.label }
-    ensures place { (place : List ℕ) → search.new.place ≡ after_all place (others_at some.now) }
+    ensures place { (place : List ℕ) → search.new.place ≡ after_all place (judged_at some.now) }
 {
     match some {
-        Others::One(one) => search.advance_by(one.trial(), one.verdict()),
-        Others::Several(several) => match several.trials() {
-            Trials::One(one) => search.advance_by(one, Verdict::Part),
-            Trials::Row(row) => go_past_row(search, row),
-            Trials::Branch(row) => go_past_row(search, row),
-            Trials::Column(column) => go_past_column(search, column),
-        },
+        Trials::One(one) => search.advance_by(one.trial(), one.verdict()),
+        Trials::Row(row) => go_past_row(search, row),
+        Trials::Branch(row) => go_past_row(search, row),
+        Trials::Column(column) => go_past_column(search, column),
     }
 }
 
@@ -421,15 +414,11 @@ pub fn report_next<A: Allocator + Copy>(
     // For the proof: the rules are valid, and the store is one of labels.
     let _rules = program.rules();
     let _given = store.next_label();
-    let mut count = 0;
-    for some in judgements.others() {
-        // For the proof: the verdicts are the right ones.
-        some.are_right();
-        go_past_some(search, some);
-        count += some.len();
+    if let Some(last) = judgements.others().last() {
+        go_past_some(search, last);
     }
     Reported {
-        count,
+        count: judgements.count_others(),
         whole_is_next: judgements.whole().is_some(),
     }
 }

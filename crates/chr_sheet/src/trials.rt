@@ -9,6 +9,7 @@ ghost use Rattle.chr_sheet.specs.Rows.{branch_trials};
 
 use crate::column::Column;
 use crate::row::Row;
+use crate::single::Single;
 use chr_search::Trial;
 use std::alloc::{AllocError, Allocator};
 
@@ -16,7 +17,7 @@ use std::alloc::{AllocError, Allocator};
 #[derive(Drop)]
 pub enum Trials<A: Allocator> {
     /// One trial.
-    One(Trial<A>),
+    One(Single<A>),
     /// Several that differ in their last label.
     Row(Row<A>),
     /// A part, and then those that differ in their last label and begin with it.
@@ -51,7 +52,7 @@ impl<A: Allocator + Copy> Row<A> {
         }
         let (part, before, trial) = self.cut(alloc, index - 1)?;
         if before.is_empty() {
-            return Ok((Some(Trials::One(part)), trial));
+            return Ok((Some(Trials::One(Single::of(part))), trial));
         }
         Ok((Some(Trials::Branch(Row::new(part, before))), trial))
     }
@@ -101,7 +102,7 @@ impl<A: Allocator + Copy> Trials<A> {
         ensures low { (1 ≤ result.0) × (1 ≤ result.1) }
     {
         match self {
-            Trials::One(trial) => head_of_trial(trial),
+            Trials::One(single) => head_of_trial(single.trial()),
             Trials::Row(row) => head_of_trial(row.part()),
             Trials::Branch(row) => head_of_trial(row.part()),
             Trials::Column(column) => column.last(),
@@ -113,7 +114,7 @@ impl<A: Allocator + Copy> Trials<A> {
         ensures { IfOk result (λ first. slice_get (trials_at self.now) 0 ≡ Some first) }
     {
         match self {
-            Trials::One(trial) => trial.copy(alloc),
+            Trials::One(single) => single.trial().copy(alloc),
             Trials::Branch(row) => row.part().copy(alloc),
             Trials::Column(column) => column.first().copy(alloc),
             Trials::Row(row) => row.part().lengthened(alloc, row.lasts()[0].copy(alloc)?),
@@ -126,7 +127,7 @@ impl<A: Allocator + Copy> Trials<A> {
         ensures { IfOk result (λ made. IsKeptBefore self index made.0 made.1) }
     {
         match self {
-            Trials::One(trial) => Ok((None, trial)),
+            Trials::One(single) => Ok((None, single.into_trial())),
             Trials::Row(row) => row.split_row(alloc, index),
             Trials::Branch(row) => row.split_branch(alloc, index),
             Trials::Column(column) => column.split_column(alloc, index),

@@ -1,23 +1,26 @@
-use Rattle.std.proofs.Common.{◌≡◌, ◌⊎◌, ◌∷◌, [], length, IfSome, MatchOption, subst, arith}
-use Rattle.chr_sheet.proofs.Words.{⊤, take_all, IsSettledUnder, trials_at, judged_at, others_in, AreRight, MustBeWhole, kept_before}
-use Rattle.chr_sheet.proofs.Keeping.{kept_up_to, one_after, judged_count}
+use Rattle.std.proofs.Common.{◌≡◌, suc, ◌+◌, IfSome, arith, subst}
+use Rattle.chr_sheet.proofs.Words.{column_trials, IsSettledAt, branch_trials, trials_of}
+use Rattle.chr_sheet.proofs.Keeping.{right_up_to, right_behind, next_behind}
 use Rattle.chr_sheet.proofs.judging.judge_some.Goals as goal
 
-pub push_several-requires : goal.push_several-requires
-push_several-requires g c =
-    let count : length (judged_at c.args.trials) ≡ length (trials_at c.args.trials) = judged_count c.args.trials in
-    subst AreRight (take_all c.count_others-count.result.0 (judged_at c.args.trials) (omega arith)) c.count_others-count.ensures.right
+pub returns-in-Row-clause-right : goal.returns-in-Row-clause-right
+returns-in-Row-clause-right g c = right_up_to (trials_of c.in-Row.row) c.count_misfits.result.0 c.count_misfits.ensures.misfits.misfits
 
-pub returns-then-count-len : goal.returns-then-count-len
-returns-then-count-len g c = kept_up_to c.args.trials (others_in c.args.others.now.items) (others_in c.push_several.new.others.items) c.in_ok-push_several.ensures
+pub returns-in-Branch-clause-right : goal.returns-in-Branch-clause-right
+returns-in-Branch-clause-right g c = right_behind c.in-Branch.row c.count_misfits-count.result.0 c.lasts-count.ensures.row c.count_misfits-count.ensures.misfits.misfits
 
-pub judge_one-requires : goal.judge_one-requires
-judge_one-requires g c =
-    subst (λ o. IfSome c.count_others-count.result.1 (λ kept. MatchOption o ⊥ (λ t. IsSettledUnder t kept))) c.in_ok-before.ensures.1 c.count_others-count.ensures.settled
+pub returns-in-Branch-clause-next : goal.returns-in-Branch-clause-next
+returns-in-Branch-clause-next g c = next_behind c.in-Branch.row c.count_misfits-count.result.0 c.count_misfits-count.ensures.misfits.next
 
-pub returns : goal.returns
-returns g c =
-    let ts = trials_at c.args.trials in
-    let left = subst (λ o. MatchOption o ⊤ (λ t. (ts ≡ t ∷ []) ⊎ MustBeWhole t)) c.in_ok-before.ensures.1 c.count_others-count.ensures.next in
-    one_after c.judge_one.result c.args.trials (kept_before judged_at c.in_ok-before.before) c.count_others-count.result.0 c.in_ok-before.trial (others_in c.args.others.now.items) (others_in c.push_several-2.new.others.items) (others_in c.judge_one.new.others.items)
-    c.in_ok-before.ensures.0 c.in_ok-before.ensures.1 c.in_ok-push_several-2.ensures left c.judge_one.ensures.judged c.judge_one.ensures.sure
+pub returns-in-Column-clause-right : goal.returns-in-Column-clause-right
+returns-in-Column-clause-right g c = right_up_to (column_trials c.in-Column.column) c.count_misfits-in-Column.result.0 c.count_misfits-in-Column.ensures.misfits.misfits
+
+pub returns-in-Row-clause-settled : goal.returns-in-Row-clause-settled
+returns-in-Row-clause-settled g c = c.count_misfits.ensures.settled
+
+pub returns-in-Branch-clause-settled : goal.returns-in-Branch-clause-settled
+returns-in-Branch-clause-settled g c =
+    subst (λ k. IfSome c.count_misfits-count.result.1 (IsSettledAt (branch_trials c.in-Branch.row) k)) (let e : suc c.count_misfits-count.result.0 ≡ c.count_misfits-count.result.0 + 1 = omega arith in e) c.count_misfits-count.ensures.settled
+
+pub returns-in-Column-clause-settled : goal.returns-in-Column-clause-settled
+returns-in-Column-clause-settled g c = c.count_misfits-in-Column.ensures.settled

@@ -1,4 +1,4 @@
-use Rattle.std.proofs.Common.{◌≡◌, ◌<◌, ◌≤◌, ◌+◌, ◌-◌, ◌∷◌, ◌++◌, map, length, refl, sym, ap, subst, ◌∙◌, arith, true-eqb}
+use Rattle.std.proofs.Common.{◌≡◌, ◌<◌, ◌≤◌, ◌+◌, ◌-◌, ◌∷◌, [], ◌++◌, map, length, refl, sym, ap, subst, ◌∙◌, arith, true-eqb}
 use Rattle.std.proofs.lemmas.Bool.{ltb-true}
 use Rattle.chr_sheet.proofs.Words.{length-map, heads_of, placed_as, MayEnd, Space, space_in, labels, position, AreEnds, ComeNext, EndHead, HasEnd, next_from, Row, branch_trials, trials_of}
 use Rattle.chr_search.specs.Tree.{NoneFrom}
@@ -58,8 +58,9 @@ pub returns-in_default-clause-last : goal.returns-in_default-clause-last
 returns-in_default-clause-last g c = λ told.
     let s : Space = space_in c.args.setting.now c.args.active in
     let t = c.args.part in
-    part_ends s t c.requires.first.0 (sym (count g (goal.at.returns-in_default-clause-last g c).After-placed-placed) ∙ true-eqb _ 1 (sym told))
-    (end_as s t.number t.head _ (labels t) 0 _ _ (labels_read placed_as c.placed-placed.result.now t c.placed-placed.ensures.placed) c.in_default.is c.first_end-found.ensures)
+    subst (λ z. EndHead s (z.trial ∷ [])) (sym c.of.ensures)
+    (part_ends s t c.requires.first.0 (sym (count g (goal.at.returns-in_default-clause-last g c).After-placed-placed) ∙ true-eqb _ 1 (sym told))
+    (end_as s t.number t.head _ (labels t) 0 _ _ (labels_read placed_as c.placed-placed.result.now t c.placed-placed.ensures.placed) c.in_default.is c.first_end-found.ensures))
 
 pub returns-clause-last : goal.returns-clause-last
 returns-clause-last g c = λ told.

@@ -1,4 +1,4 @@
-use Rattle.std.proofs.Common.{◌≡◌, ◌≤◌, ◌-◌, suc, length, map, refl, sym, ap, subst, ◌∙◌, arith}
+use Rattle.std.proofs.Common.{◌≡◌, ◌≤◌, ◌-◌, suc, ◌∷◌, [], length, map, refl, sym, ap, subst, ◌∙◌, arith}
 use Rattle.chr_sheet.proofs.Words.{arc_value, length-map, placed_as, Space, space_in, ComeNext, EndHead, AreNextHeads, Column, IsColumn, at_head, column_trials, head_in}
 use Rattle.chr_sheet.proofs.Rows.{column_of}
 use Rattle.chr_sheet.proofs.NextBeside.{alone_ends, column_ends, IsAlone, is_alone, first_low, column_next, column_made, last_trial}
@@ -40,7 +40,8 @@ column g c = ap (λ rules. column_of c.args.first (map (head_in rules) c.in_ok-m
 pub returns-then-is_empty-clause-last : goal.returns-then-is_empty-clause-last
 returns-then-is_empty-clause-last g c =
     let k = known g (goal.at.returns-then-is_empty-clause-last g c).After-pred-pred in
-    alone_ends (space_in c.args.setting.now c.args.active) k.plans k.scoped c.args.first k.here k.trial_of (ap length k.placed) k.full
+    subst (λ s. EndHead (space_in c.args.setting.now c.args.active) (s.trial ∷ [])) (sym c.of.ensures)
+    (alone_ends (space_in c.args.setting.now c.args.active) k.plans k.scoped c.args.first k.here k.trial_of (ap length k.placed) k.full)
 
 pub returns-clause-last : goal.returns-clause-last
 returns-clause-last g c =

@@ -54,7 +54,8 @@ returns-in_default-clause-last g c = λ told.
     let some : 1 ≤ length t.placed = c.placed.ensures.formed.some in
     let few : length t.placed ≤ length (heads_of t.rule) = c.placed.ensures.formed.few in
     let all : length t.placed ≡ 2 = (let more : length c.placed.result.now + 1 ≡ c.heads-heads.result → ⊥ = c.if-placed-heads.false in omega arith) in
-    pair_ends (space_in c.args.setting.now c.args.active) c.requires.plans c.rules-rules.ensures.valid t c.requires.first.0 c.requires.first.1 all (heads ∙ two) (subst (BesideOrNone (space_in c.args.setting.now c.args.active) t) c.in_default.is c.second_beside-beside.ensures)
+    subst (λ z. EndHead (space_in c.args.setting.now c.args.active) (z.trial ∷ [])) (sym c.of-in_default.ensures)
+    (pair_ends (space_in c.args.setting.now c.args.active) c.requires.plans c.rules-rules.ensures.valid t c.requires.first.0 c.requires.first.1 all (heads ∙ two) (subst (BesideOrNone (space_in c.args.setting.now c.args.active) t) c.in_default.is c.second_beside-beside.ensures))
 
 pub returns-clause-last : goal.returns-clause-last
 returns-clause-last g c = λ told.

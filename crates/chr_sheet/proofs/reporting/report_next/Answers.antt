@@ -1,63 +1,48 @@
-use Rattle.std.proofs.Common.{length, length-append, take, refl, sym, ap, subst, ◌∙◌, arith}
-use Rattle.std.specs.Prelude.{◌≢◌}
-use Rattle.chr_sheet.proofs.Words.{AllByRecursion, take_all, Whole, Judgement, IsVerdict, Space, older, others_at, others_in, listed, after_all}
-use Rattle.chr_sheet.proofs.Keeping.{all_both, others_step, others_counted, others_within}
-use Rattle.chr_sheet.proofs.Turns.{admissible_here, after_both, fireable, some_told, told_all}
+use Rattle.std.proofs.Common.{◌≡◌, map, ap, sym, refl, subst, ◌∙◌}
+use Rattle.chr_sheet.proofs.Words.{AreRight, SearchState, Space, older, judged_at, judged_in, after_all, AreNextInOrder, Reports, listed, Judgement, IsVerdict}
+use Rattle.chr_sheet.proofs.Keeping.{all_both, judged_pushed}
+use Rattle.chr_sheet.proofs.Turns.{admissible_last, after_place, fireable, last_split, none_last, some_told, told_all}
+use Rattle.chr_sheet.proofs.reporting.report_next.Goals.{After-count_others, in-Some, in_default}
 use Rattle.chr_sheet.proofs.reporting.report_next.Goals as goal
 
-pub loop-some-init : goal.loop-some-init
-loop-some-init g c = record { all = c.others-some-items.ensures.others; right = tt; other = tt; label = refl; place = refl; count = refl }
-
 pub go_past_some-requires : goal.go_past_some-requires
-go_past_some-requires g c = (
-  older c.args.program.now c.args.plans.now c.args.store.now.entries c.args.search.now.label,
-  sym c.loop-some.invariant.label,
-  admissible_here _ _ _ _ c.loop-some.some-index _ c.others-some-items.ensures.others c.loop-some-test.true c.some-item.is c.requires.next,
-)
-
-pub overflow_add-count : goal.overflow_add-count
-overflow_add-count g c =
-    let within = others_within c.others-some-items.result.now c.loop-some.some-index c.some-item.result c.loop-some-test.true c.some-item.is in
-    omega (arith, within, c.loop-some.invariant.count, ap length c.loop-some.invariant.all, c.others-some-items.ensures.few, length-append c.args.judgements.now.others (listed c.args.judgements.now.whole))
-
-pub loop-some-preserved : goal.loop-some-preserved
-loop-some-preserved g c =
-    let xs = c.others-some-items.result.now in
-    let i = c.loop-some.some-index in
-    let was = c.loop-some.invariant in
-    let before = others_in (take i xs) in
-    let here = others_at c.some-item.result in
-    let step = others_step xs i c.some-item.result c.loop-some-test.true c.some-item.is in
-    let more = others_counted xs i c.some-item.result c.loop-some-test.true c.some-item.is in
+go_past_some-requires g c =
+    let s : Space = older c.args.program.now c.args.plans.now c.args.store.now.entries c.args.search.now.label in
+    let split = last_split c.others.result.now c.in-Some.last.now c.in-Some.ensures.value in
+    let pushed = judged_pushed split.0 c.others.result.now c.in-Some.last.now split.1 in
     record {
-      all = was.all;
-      right = subst (AllByRecursion (λ j. IsVerdict j.trial j.verdict)) (sym step) ((all_both (λ (j : Judgement). IsVerdict j.trial j.verdict) before here).1 (was.right, c.are_right.ensures.right));
-      other = subst (AllByRecursion (λ j. j.verdict ≢ Whole)) (sym step) ((all_both (λ (j : Judgement). j.verdict ≢ Whole) before here).1 (was.other, c.are_right.ensures.other));
-      label = c.go_past_some.ensures.label ∙ was.label;
-      place = c.go_past_some.ensures.place c.loop-some.search.place ∙ ap (λ p. after_all p here) was.place ∙ sym (after_both c.args.search.now.place before here) ∙ ap (after_all c.args.search.now.place) (sym step);
-      count = omega (arith, was.count);
+      trials = (s, refl, admissible_last s c.args.search.now.place c.args.judgements.now c.others.result.now split.0 c.in-Some.last.now c.others.ensures.others split.1 c.requires.next);
+      right = ((all_both (λ (j : Judgement). IsVerdict j.trial j.verdict) (judged_in split.0) (judged_at c.in-Some.last.now)).0 (subst AreRight (sym c.others.ensures.others ∙ pushed) c.others.ensures.right)).1;
     }
 
 pub returns-clause-label : goal.returns-clause-label
-returns-clause-label g c = c.loop-some.invariant.label
+returns-clause-label g c = elim c.match-last.branch [
+  | in-Some w ↦ ap (λ (z : SearchState). z.label) w.search-is ∙ w.go_past_some.ensures.label
+  | in_default w ↦ ap (λ (z : SearchState). z.label) w.search-is
+]
+
+-- the search goes on as after the last of them
+goes : (g : _) (c : After-count_others g) → c.match-last.search.place ≡ after_all c.args.search.now.place c.args.judgements.now.others
+goes g c =
+    let place = c.args.search.now.place in
+    let xs = c.others.result.now in
+    let js = c.args.judgements.now.others in
+    elim c.match-last.branch [
+      | in-Some w ↦
+          let split = last_split xs w.in-Some.last.now w.in-Some.ensures.value in
+          ap (λ (z : SearchState). z.place) w.search-is ∙ w.go_past_some.ensures.place (after_all place (judged_in split.0)) ∙ after_place place xs split.0 w.in-Some.last.now js c.others.ensures.others split.1
+      | in_default w ↦ ap (λ (z : SearchState). z.place) w.search-is ∙ ap (after_all place) (sym (ap judged_in (none_last xs c.last.result w.in_default.is c.last.ensures.value)) ∙ c.others.ensures.others)
+    ]
+
+told : (g : _) (c : After-count_others g) → let s = older c.args.program.now c.args.plans.now c.args.store.now.entries c.args.search.now.label in Reports s c.args.search.now.place c.args.judgements.now.others c.count_others.result c.match-last.search.place × AreNextInOrder s c.match-last.search.place (map (λ (j : Judgement). j.trial) (listed c.args.judgements.now.whole))
+told g c =
+    let s : Space = older c.args.program.now c.args.plans.now c.args.store.now.entries c.args.search.now.label in
+    told_all s c.args.store.now (record { plans = c.requires.plans; rules = c.rules-rules.ensures.valid; entries = refl; labelled = c.next_label-given.ensures.labelled }) c.args.search.now.place c.match-last.search.place c.args.judgements.now c.count_others.result c.others.ensures.right c.others.ensures.other c.requires.next (goes g c) c.count_others.ensures
 
 pub returns-clause-reports : goal.returns-clause-reports
-returns-clause-reports g c =
-    let s : Space = older c.args.program.now c.args.plans.now c.args.store.now.entries c.args.search.now.label in
-    let xs = c.others-some-items.result.now in
-    let was = c.loop-some.invariant in
-    let all = ap others_in (take_all c.loop-some.some-index xs c.loop-some-test.false) ∙ was.all in
-    (told_all s c.args.store.now (record { plans = c.requires.plans; rules = c.rules-rules.ensures.valid; entries = refl; labelled = c.next_label-given.ensures.labelled }) c.args.search.now.place c.loop-some.search.place c.args.judgements.now (others_in (take c.loop-some.some-index xs)) c.loop-some.count all was.right was.other c.requires.next was.place was.count).0
-
-pub returns-clause-right : goal.returns-clause-right
-returns-clause-right g c =
-    subst (AllByRecursion (λ j. IsVerdict j.trial j.verdict)) (ap others_in (take_all c.loop-some.some-index c.others-some-items.result.now c.loop-some-test.false) ∙ c.loop-some.invariant.all) c.loop-some.invariant.right
+returns-clause-reports g c = (told g (goal.at.returns-clause-reports g c).After-count_others).0
 
 pub returns-clause-whole : goal.returns-clause-whole
 returns-clause-whole g c =
     let s : Space = older c.args.program.now c.args.plans.now c.args.store.now.entries c.args.search.now.label in
-    let xs = c.others-some-items.result.now in
-    let was = c.loop-some.invariant in
-    let all = ap others_in (take_all c.loop-some.some-index xs c.loop-some-test.false) ∙ was.all in
-    let next = (told_all s c.args.store.now (record { plans = c.requires.plans; rules = c.rules-rules.ensures.valid; entries = refl; labelled = c.next_label-given.ensures.labelled }) c.args.search.now.place c.loop-some.search.place c.args.judgements.now (others_in (take c.loop-some.some-index xs)) c.loop-some.count all was.right was.other c.requires.next was.place was.count).1 in
-    fireable s c.loop-some.search.place c.args.judgements.now.whole c.is_some.result (some_told c.whole.result c.args.judgements.now.whole c.is_some.result c.whole.ensures.whole c.is_some.ensures) next
+    fireable s c.match-last.search.place c.args.judgements.now.whole c.is_some.result (some_told c.whole.result c.args.judgements.now.whole c.is_some.result c.whole.ensures.whole c.is_some.ensures) (told g (goal.at.returns-clause-whole g c).After-count_others).1

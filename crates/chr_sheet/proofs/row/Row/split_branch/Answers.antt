@@ -1,6 +1,7 @@
 use Rattle.std.proofs.Common.{◌≡◌, ◌∷◌, [], Some, map, length, take, slice_get, sym, ap, ◌∙◌, arith}
-use Rattle.chr_sheet.proofs.Words.{length-map, lengthened, placed_as, Row, branch_trials, judged_part, misfit, trials_of}
+use Rattle.chr_sheet.proofs.Words.{length-map, lengthened, placed_as, Row, branch_trials, marked_verdict, judged_part, misfit, trials_of}
 use Rattle.chr_sheet.proofs.Rows.{judged_branch, branch_there, none_before, told_some}
+use Rattle.chr_sheet.specs.declared.single.Single.{Single}
 use Rattle.chr_sheet.proofs.row.Row.split_branch.Goals as goal
 
 pub returns-then-index-eq0 : goal.returns-then-index-eq0
@@ -20,7 +21,7 @@ pub returns-then-is_empty : goal.returns-then-is_empty
 returns-then-is_empty g c =
     let r : Row = c.args.self in
     let k = c.in_ok-part.ensures in (
-      ap (λ t. judged_part t ∷ []) k.part_is ∙ judged_branch r [] c.args.index (omega arith) (none_before placed_as c.in_ok-part.part c.in_ok-part.before.items c.in_ok-part.before.len c.is_empty.result c.is_empty.ensures c.if-is_empty.true (omega (arith, c.in_ok-part.before.ok.0)) ∙ k.split.0),
+      ap (λ (s : Single _). record { trial = s.trial; verdict = marked_verdict s.is_misfit } ∷ []) c.of.ensures ∙ ap (λ t. judged_part t ∷ []) k.part_is ∙ judged_branch r [] c.args.index (omega arith) (none_before placed_as c.in_ok-part.part c.in_ok-part.before.items c.in_ok-part.before.len c.is_empty.result c.is_empty.ensures c.if-is_empty.true (omega (arith, c.in_ok-part.before.ok.0)) ∙ k.split.0),
       branch_there r c.args.index c.in_ok-part.trial (omega arith) k.split.1,
     )
 
