@@ -1,6 +1,6 @@
 -- Trials that come next one after another: those that differ in their last label, the part with which they begin, and those of the active label alone.
-use Rattle.std.proofs.Common.{◌≡◌, ℕ, ◌+◌, List, [], ◌∷◌, ◌++◌, append_assoc, map, length, Option, Some, refl, sym, ◌∙◌, ap, subst, suc, zero, ◌≤◌, length-append, get_or, None, MatchOption, arith, true}
-use Rattle.chr_sheet.proofs.Words.{map_push, length_push, same_from_push, length-map, Space, Join, IsTrial, IsNext, NoneLeft, Child, Placed, Trial, labels, position, IsFormed, IsPart, IsTrialOf, MayEnd, IsEndFrom, IsFront, IsPlacedAfter, lengthened, ComeAfter, trial_alone, AreEnds, next_from, HasEnd, HasBeside, HasNoneBeside, ComeNext, AreInTurn, last_of, IsLastAtHead, EndHead, AllByRecursion, heads_of, Simpagation, rule_at, just_after, past, at_or_after, IsRow, trials_of, branch_trials, IsNextTrial, AreNext, AreNextTogether, Head, Column, IsColumn, AreNextHeads, at_head, column_trials}
+use Rattle.std.proofs.Common.{◌≡◌, ℕ, ◌+◌, List, [], ◌∷◌, ◌++◌, append_assoc, map, length, Option, Some, refl, sym, ◌∙◌, ap, subst, suc, zero, ◌≤◌, length-append, get_or, arith, true}
+use Rattle.chr_sheet.proofs.Words.{map_push, length_push, same_from_push, length-map, Space, Join, IsTrial, IsNext, NoneLeft, Child, Placed, Trial, labels, position, IsFormed, IsPart, IsTrialOf, MayEnd, IsEndFrom, IsFront, IsPlacedAfter, lengthened, ComeAfter, trial_alone, AreEnds, next_from, ComeNext, AreInTurn, last_of, IsLastAtHead, EndHead, AllByRecursion, heads_of, Simpagation, rule_at, just_after, past, at_or_after, IsRow, trials_of, branch_trials, IsNextTrial, AreNext, AreNextTogether, Head, Column, IsColumn, AreNextHeads, at_head, column_trials}
 use Rattle.chr_search.specs.declared.front.Front.{Front as CodeFront}
 use Rattle.chr_search.specs.Tree.{LeastFrom, NoneFrom}
 use Rattle.chr_rule.specs.Scope.{IsRule}
@@ -145,6 +145,11 @@ row_made s store st w part k whole p more lasts here i is e =
       next = next;
     }
 
+-- a front of a rule, a head and labels, and the least label from one on with which a trial ends
+pub record HasEnd {Z : Type 0} (s : Space) (r h : ℕ) (ls : List ℕ) (from : ℕ) (f : CodeFront Z) (end : ℕ) : Type 0 where
+  pub front : IsFront s r h ls f
+  pub least : LeastFrom (MayEnd s (r ∷ h ∷ ls)) from end
+
 -- what is known of a trial with those beside it, without its last label
 pub record IsBegun {Z : Type 0} (s : Space) (part : Trial) (p : Placed) (f : CodeFront Z) (second : ℕ) : Type 0 where
   pub lacks : LacksOne s part
@@ -152,21 +157,21 @@ pub record IsBegun {Z : Type 0} (s : Space) (part : Trial) (p : Placed) (f : Cod
   pub trial_of : IsTrialOf s.rules s.plans s.store (lengthened part p)
   pub end : HasEnd s part.number part.head (labels part) (p.label + 1) f second
 
-pub begun : {Z : Type 0} (s : Space) → ArePlans s.rules s.plans → AllByRecursion IsRule s.rules → (part : Trial) (p : Placed) (t : Trial) (f : CodeFront Z) (second : ℕ) → lengthened part p ≡ t → IsTrial s (position t) × IsTrialOf s.rules s.plans s.store t → HasBeside s t f second → IsBegun s part p f second
-begun s ps rs part p t f second e i h = whole (subst (λ t. IsTrial s (position t) × IsTrialOf s.rules s.plans s.store t) (sym e) i) (subst (λ t. HasBeside s t f second) (sym e) h)
-  where
-    whole : IsTrial s (position (lengthened part p)) × IsTrialOf s.rules s.plans s.store (lengthened part p) → HasBeside s (lengthened part p) f second → IsBegun s part p f second
-    whole i h =
-        let same = same_from_push (labels part) h.before p.label h.last (sym (map_push (λ (x : Placed). x.label) part.placed p) ∙ h.labels_are) in
-        let count : length (part.placed ++ p ∷ []) ≡ length part.placed + 1 = length_push part.placed p in
-        let end : HasEnd s part.number part.head (labels part) (p.label + 1) f second = subst (λ n. HasEnd s part.number part.head (labels part) (n + 1) f second) (sym same.1) (subst (λ ls. HasEnd s part.number part.head ls (h.last + 1) f second) (sym same.0) h.end) in
-        let some : 1 ≤ length (labels part) = end.front.some in
-        record {
-          lacks = record { plans = ps; scoped = rs; trial_of = (placed_after s part p i.1).0; some = omega (arith, labels_length part); full = sym count ∙ h.full };
-          here = i.0;
-          trial_of = i.1;
-          end = end;
-        }
+pub begun : {Z : Type 0} (s : Space) → ArePlans s.rules s.plans → AllByRecursion IsRule s.rules → (part : Trial) (p : Placed) (t : Trial) (f : CodeFront Z) (second : ℕ) → lengthened part p ≡ t → IsTrial s (position t) × IsTrialOf s.rules s.plans s.store t → length t.placed ≡ length (heads_of t.rule)
+    → (before : List ℕ) (last : ℕ) → labels t ≡ before ++ last ∷ [] → HasEnd s t.number t.head before (last + 1) f second → IsBegun s part p f second
+begun s ps rs part p t f second e i full before last is end =
+    let whole : length (part.placed ++ p ∷ []) ≡ length (heads_of part.rule) = ap (λ (u : Trial). length u.placed) e ∙ full ∙ ap (λ (u : Trial). length (heads_of u.rule)) (sym e) in
+    let here = subst (λ u. IsTrial s (position u) × IsTrialOf s.rules s.plans s.store u) (sym e) i in
+    let same = same_from_push (labels part) before p.label last (sym (map_push (λ (x : Placed). x.label) part.placed p) ∙ ap labels e ∙ is) in
+    let begin : HasEnd s part.number part.head before (last + 1) f second = subst (λ u. HasEnd s u.number u.head before (last + 1) f second) (sym e) end in
+    let ends : HasEnd s part.number part.head (labels part) (p.label + 1) f second = subst (λ n. HasEnd s part.number part.head (labels part) (n + 1) f second) (sym same.1) (subst (λ ls. HasEnd s part.number part.head ls (last + 1) f second) (sym same.0) begin) in
+    let some : 1 ≤ length (labels part) = ends.front.some in
+    record {
+      lacks = record { plans = ps; scoped = rs; trial_of = (placed_after s part p here.1).0; some = omega (arith, labels_length part); full = sym (length_push part.placed p) ∙ whole };
+      here = here.0;
+      trial_of = here.1;
+      end = ends;
+    }
 
 -- the labels of a trial
 pub labels_read : {X : Type 0} (f : X → Placed) (xs : List X) (t : Trial) → map f xs ≡ t.placed → map (λ x. (f x).label) xs ≡ labels t
@@ -233,22 +238,17 @@ begins_others s t f front i w left =
     let here = subst (λ (x : Join). IsTrialIn x (labels t) t) (sym k.is) (trial_in s t j.rule j.order i k.planned w) in
     is_part j (labels t) f.binding.now front.ready (omega (arith, labels_length t, ap (λ r. length (heads_of r)) here.rule_is, length-append j.rule.kept j.rule.removed)) t here
 
--- ---- the least label with which a trial ends
+-- ---- the front of a trial
 
-abbrev pub EndOrNone : {Z : Type 0} → Space → ℕ → ℕ → List ℕ → ℕ → Option (CodeFront Z × ℕ) → Type 0
-EndOrNone s r h ls from found = MatchOption found (NoneFrom (MayEnd s (r ∷ h ∷ ls)) from) (λ x. HasEnd s r h ls from x.0 x.1)
+-- a front of the same numbers and labels
+pub front_as : {Z : Type 0} (s : Space) (r q h k : ℕ) (ls ms : List ℕ) (f : CodeFront Z) → r ≡ q → h ≡ k → ls ≡ ms → IsFront s r h ls f → IsFront s q k ms f
+front_as s r q h k ls ms f number head labels front = subst (λ n. IsFront s n k ms f) number (subst (λ n. IsFront s r n ms f) head (subst (λ xs. IsFront s r h xs f) labels front))
 
-pub end_as : {Z : Type 0} (s : Space) (r h : ℕ) (ls ms : List ℕ) (from : ℕ) (found now : Option (CodeFront Z × ℕ)) → ls ≡ ms → found ≡ now → EndOrNone s r h ls from found → EndOrNone s r h ms from now
-end_as s r h ls ms from found now e is end = subst (EndOrNone s r h ms from) is (subst (λ xs. EndOrNone s r h xs from found) e end)
-
-abbrev pub BesideOrNone : {Z : Type 0} → Space → Trial → Option (CodeFront Z × ℕ) → Type 0
-BesideOrNone s t found = MatchOption found (HasNoneBeside s t) (λ x. HasBeside s t x.0 x.1)
-
-pub beside : {Z : Type 0} (s : Space) (t : Trial) (before : List ℕ) (last : ℕ) (found : Option (CodeFront Z × ℕ)) → length t.placed ≡ length (heads_of t.rule) → labels t ≡ before ++ last ∷ [] → EndOrNone s t.number t.head before (last + 1) found → BesideOrNone s t found
-beside s t before last None full ls none = λ all others other is some.
-    let same = same_from_push before others last other (sym ls ∙ is) in
-    subst (λ l. NoneFrom (MayEnd s (t.number ∷ t.head ∷ others)) (l + 1)) same.1 (subst (λ xs. NoneFrom (MayEnd s (t.number ∷ t.head ∷ xs)) (last + 1)) same.0 none)
-beside s t before last (Some x) full ls h = record { full = full; before = before; last = last; labels_are = ls; end = h }
+-- where there is none, no trial ends from a label on
+pub none_as : (s : Space) (r q h k : ℕ) (ls ms : List ℕ) (from : ℕ) → r ≡ q → h ≡ k → ls ≡ ms → ((x : ℕ) → MayEnd s (r ∷ h ∷ ls) x → ⊥) → NoneFrom (MayEnd s (q ∷ k ∷ ms)) from
+none_as s r q h k ls ms from number head labels none =
+    let same : r ∷ h ∷ ls ≡ q ∷ k ∷ ms = cc in
+    λ x i least. none x (subst (λ path. MayEnd s path x) (sym same) i)
 
 -- ---- trials of the active label alone that come next one after another
 
@@ -410,14 +410,10 @@ full_ends s ps rs t k i full (b ∷ []) last e one none = λ u j a.
     (subst (λ p. at_or_after p u ≡ true) (ap past at ∙ ap (λ x. t.number ∷ t.head ∷ x ∷ (last + 1) ∷ []) first) ((full_after s t ps rs i full some u j).1 a))
 full_ends s ps rs t k i full before last e one none = absurd (omega arith)
 
-two_labels : (ls : List ℕ) → length ls ≡ 2 → (first last : ℕ) × (ls ≡ first ∷ last ∷ [])
-two_labels (x ∷ y ∷ []) e = (x, y, refl)
-two_labels ls e = absurd (omega arith)
-
-pub pair_ends : (s : Space) → ArePlans s.rules s.plans → AllByRecursion IsRule s.rules → (t : Trial) → IsTrial s (position t) → IsTrialOf s.rules s.plans s.store t → length t.placed ≡ 2 → length (heads_of t.rule) ≡ 2 → HasNoneBeside s t → IsLastAtHead s t
-pair_ends s ps rs t k i two full none =
-    let ls = two_labels (labels t) (labels_length t ∙ two) in
-    full_ends s ps rs t k i (two ∙ sym full) (ls.0 ∷ []) ls.1 ls.2 refl (none (two ∙ sym full) (ls.0 ∷ []) ls.1 ls.2 (omega arith))
+pub pair_ends : (s : Space) → ArePlans s.rules s.plans → AllByRecursion IsRule s.rules → (t : Trial) → IsTrial s (position t) → IsTrialOf s.rules s.plans s.store t → length t.placed ≡ 2 → length t.placed ≡ length (heads_of t.rule) → (before : List ℕ) (last : ℕ) → labels t ≡ before ++ last ∷ [] → NoneFrom (MayEnd s (t.number ∷ t.head ∷ before)) (last + 1) → IsLastAtHead s t
+pair_ends s ps rs t k i two full before last e none =
+    let one : length before ≡ 1 = omega (arith, two, labels_length t, ap length e, length_push before last) in
+    full_ends s ps rs t k i full before last e one none
 
 -- the last trial of a row and of a branch, where no label is left to push
 last_placed : (part : Trial) (p : Placed) (ps : List Placed) → (q : Placed) × (last_of (lengthened part p) (map (lengthened part) ps) ≡ lengthened part q) × (next_from (p.label + 1) ps ≡ q.label + 1)

@@ -8,7 +8,7 @@ pub use Rattle.chr_search.specs.Reach.{SearchState}
 pub use Rattle.chr_search.specs.Trials.{Space, older, IsNext, IsTrial, NoneLeft, Child, join_in, Join, IsPlanned}
 pub use Rattle.chr_search.specs.Verdicts.{Trial, Placed, position, labels, IsTrialOf, IsFormed, IsPart, heads, IsWholeUnder, at_heads}
 pub use Rattle.chr_search.specs.declared.judged.Verdict.TheVariants.{Whole, Part, Misfit}
-pub use Rattle.chr_sheet.specs.Beside.{last_of, AreEnds, next_from, HasEnd, HasBeside, HasNoneBeside, ComeNext, AreInTurn, IsLastAtHead, EndHead}
+pub use Rattle.chr_sheet.specs.Beside.{last_of, AreEnds, next_from, ComeNext, AreInTurn, IsLastAtHead, EndHead}
 pub use Rattle.chr_sheet.specs.Columns.{column_trials, Head, Column, at_head, IsColumn, AreNextHeads, head_in, rule_or_none}
 pub use Rattle.chr_sheet.specs.Kept.{trials_at, trials_in, marked_verdict, judged_at, judged_in}
 pub use Rattle.chr_sheet.specs.Rows.{trials_of, misfit, Row, IsRow, judged_part, listed, branch_trials, AreMisfits, AreRight, MustBeWhole, JudgedSheet, judgements_of, AreMisfitsUpTo, IsSettledAt, kept_before}

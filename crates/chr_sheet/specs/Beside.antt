@@ -1,39 +1,12 @@
 -- The trials beside another: those that come next after it and differ from it in their last label
 -- alone.
-use Rattle.std.specs.Prelude.{⊤, ◌≡◌, ℕ, ◌+◌, ◌≤◌, true, List, [], ◌∷◌, ◌++◌, length}
-use Rattle.chr_plan.specs.Orders.{heads_of}
-use Rattle.chr_search.specs.declared.front.Front.{Front as CodeFront}
+use Rattle.std.specs.Prelude.{⊤, ◌≡◌, ℕ, ◌+◌, ◌≤◌, true, List, [], ◌∷◌, length}
 use Rattle.chr_search.specs.Positions.{at_or_after, just_after}
-use Rattle.chr_search.specs.Tree.{LeastFrom, NoneFrom}
+use Rattle.chr_search.specs.Tree.{LeastFrom}
 use Rattle.chr_search.specs.Trials.{Space, IsTrial}
-use Rattle.chr_search.specs.Verdicts.{Placed, Trial, labels, position}
-use Rattle.chr_search.specs.Fronts.{MayEnd, IsFront, IsPlacedAfter}
+use Rattle.chr_search.specs.Verdicts.{Placed, Trial, position}
+use Rattle.chr_search.specs.Fronts.{MayEnd, IsPlacedAfter}
 use Rattle.chr_sheet.specs.Sheets.{IsNextTrial}
-
--- a front of a rule, a head and labels, and the least label from one on with which an admissible
--- trial ends that begins with these
-pub record HasEnd {Z : Type 0} (s : Space) (r h : ℕ) (ls : List ℕ) (from : ℕ) (f : CodeFront Z)
-    (end : ℕ) : Type 0 where
-  pub front : IsFront s r h ls f
-  pub least : LeastFrom (MayEnd s (r ∷ h ∷ ls)) from end
-
--- A trial has all heads, two at least; a front has all its labels but the last; and this is the
--- least label past that one with which another ends.
-pub record HasBeside {Z : Type 0} (s : Space) (t : Trial) (f : CodeFront Z)
-    (second : ℕ) : Type 0 where
-  pub full : length t.placed ≡ length (heads_of t.rule)
-  pub before : List ℕ
-  pub last : ℕ
-  pub labels_are : labels t ≡ before ++ last ∷ []
-  pub end : HasEnd s t.number t.head before (last + 1) f second
-
--- There is none: where it has all heads, two at least, no other ends past its last label that has
--- all its labels but that one.
-abbrev pub HasNoneBeside : Space → Trial → Type 0
-HasNoneBeside s t =
-    length t.placed ≡ length (heads_of t.rule) → (before : List ℕ) (last : ℕ) →
-    labels t ≡ before ++ last ∷ [] → 1 ≤ length before →
-    NoneFrom (MayEnd s (t.number ∷ t.head ∷ before)) (last + 1)
 
 -- labels with which admissible trials end: the first is the least one from a number on, and each
 -- other the least past the one before

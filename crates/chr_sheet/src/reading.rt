@@ -10,7 +10,7 @@ ghost use Rattle.chr_search.specs.Positions.{past};
 ghost use Rattle.chr_search.specs.Tree.{LeastFrom, NoneFrom};
 ghost use Rattle.chr_search.specs.Trials.{Space, older, IsTrial};
 ghost use Rattle.chr_search.specs.Verdicts.{Placed as PlacedView, Trial as TrialView, position, IsTrialOf};
-ghost use Rattle.chr_sheet.specs.Beside.{HasEnd, HasBeside, HasNoneBeside, AreEnds, AreInTurn, EndHead, last_of, next_from};
+ghost use Rattle.chr_sheet.specs.Beside.{AreEnds, AreInTurn, EndHead, last_of, next_from};
 ghost use Rattle.chr_sheet.specs.Columns.{head_in, AreNextHeads};
 ghost use Rattle.chr_sheet.specs.Kept.{trials_at, trials_in};
 ghost use Rattle.chr_sheet.specs.Rows.{trials_of};
@@ -77,54 +77,6 @@ fn push_ends<A: Allocator + Copy>(
         next = front.next(label + 1);
     }
     Ok(())
-}
-
-/// The front of a trial's rule, its head and these labels, and the least label from one on with which a trial ends. None where
-/// there is none.
-#[inline(always)]
-fn first_end<'b, 's, A: Allocator + Copy>(
-    trial: &Trial<A>,
-    labels: &[Placed<A>],
-    from: Label,
-    active: Label,
-    setting: &Setting<'s, A>,
-    binding: &'b mut Binding<'s, A>,
-) -> Option<(Front<'b, 's, A>, Label)>
-    requires plans { HasPlans setting.now }
-    requires some { 1 ≤ length labels.now }
-    requires few { length labels.now ≤ 5 }
-    ensures { let s = space_in setting.now active in let ls = map (λ p. p.label) labels.now in MatchOption result (NoneFrom (MayEnd s (trial.now.number ∷ trial.now.head ∷ ls)) from) (λ found. HasEnd s trial.now.number trial.now.head ls from found.0 found.1) }
-{
-    let mut front = Front::of(
-        setting.program,
-        setting.plans,
-        setting.store,
-        active,
-        (trial.number(), trial.head()),
-        labels,
-        binding,
-    )?;
-    let first = front.next(from)?;
-    Some((front, first))
-}
-
-/// Where a trial has all heads, two at least: the front of its labels but the last, and the least label past that one with
-/// which a trial ends. None where there is none.
-fn second_beside<'b, 's, A: Allocator + Copy>(
-    first: &Trial<A>,
-    active: Label,
-    setting: &Setting<'s, A>,
-    binding: &'b mut Binding<'s, A>,
-) -> Option<(Front<'b, 's, A>, Label)>
-    requires { HasPlans setting.now }
-    ensures { let s = space_in setting.now active in MatchOption result (HasNoneBeside s first.now) (λ found. HasBeside s first.now found.0 found.1) }
-{
-    let placed = first.placed();
-    let (last, before) = placed.split_last()?;
-    if before.is_empty() || placed.len() != first.rule().heads() {
-        return None;
-    }
-    first_end(first, before, last.label + 1, active, setting, binding)
 }
 
 /// The heads of rules of one head at which an atom of a predicate is tried next after a rule and a head, one after another, at
@@ -214,16 +166,77 @@ fn in_branch<'s, A: Allocator + Copy>(
     let placed = part.placed();
     // Each trial at a head begins with the active label, and so with a part that has no other.
     let is_alone = placed.len() == 1;
-    let mut found = first_end(&part, placed, 0, active, setting, binding);
-    let Some(found) = &mut found else {
+    let Some(mut front) = Front::of(
+        setting.program,
+        setting.plans,
+        setting.store,
+        active,
+        (part.number(), part.head()),
+        placed,
+        binding,
+    ) else {
         return Ok((Trials::One(Single::of(part)), is_alone));
     };
-    let first = found.1;
+    let Some(first) = front.next(0) else {
+        return Ok((Trials::One(Single::of(part)), is_alone));
+    };
     let most = most - 1;
-    let mut lasts = found.0.no_ends(alloc, most)?;
-    push_ends(alloc, &mut found.0, &mut lasts, first, most)?;
+    let mut lasts = front.no_ends(alloc, most)?;
+    push_ends(alloc, &mut front, &mut lasts, first, most)?;
     let ends_head = is_alone && lasts.len() < most;
     Ok((Trials::Branch(Row::new(part, lasts)), ends_head))
+}
+
+/// A trial that has all heads, two at least, with those that come next after it and differ from it in their last label alone, at
+/// most so many, and whether it is known that no other is left at the head. An `Err` is E01.
+#[inline(always)]
+fn in_row<'s, A: Allocator + Copy>(
+    alloc: A,
+    active: Label,
+    first: Trial<A>,
+    most: usize,
+    setting: &Setting<'s, A>,
+    binding: &mut Binding<'s, A>,
+) -> Result<(Trials<A>, bool), AllocError>
+    requires plans { HasPlans setting.now }
+    requires some { 2 ≤ most }
+    requires full { length first.placed ≡ length (heads_of first.rule) }
+    requires two { 2 ≤ length first.placed }
+    requires first { let s = space_in setting.now active in IsTrial s (position first) × IsTrialOf s.rules s.plans s.store first }
+    ensures turn { IfOk result (λ made. AreInTurn (space_in setting.now active) most first (trials_at made.0)) }
+    ensures last { IfOk result (λ made. IsTrue made.1 → EndHead (space_in setting.now active) (trials_at made.0)) }
+{
+    // For the proof: the rules are valid, and the labels of a store are at most the greatest.
+    let _rules = setting.program.rules();
+    let _given = setting.store.next_label();
+    let placed = first.placed();
+    // The full trials of a rule of two heads differ at one of these in their last label alone.
+    let is_pair = placed.len() == 2;
+    let Some((last, before)) = placed.split_last() else {
+        unreachable!();
+    };
+    let Some(mut front) = Front::of(
+        setting.program,
+        setting.plans,
+        setting.store,
+        active,
+        (first.number(), first.head()),
+        before,
+        binding,
+    ) else {
+        return Ok((Trials::One(Single::of(first)), is_pair));
+    };
+    let Some(second) = front.next(last.label + 1) else {
+        return Ok((Trials::One(Single::of(first)), is_pair));
+    };
+    let (part, last) = first.split_last();
+    // For the proof: what holds of every trial.
+    let _placed = part.placed();
+    let mut lasts = front.no_ends(alloc, most)?;
+    lasts.push(last)?;
+    push_ends(alloc, &mut front, &mut lasts, second, most)?;
+    let ends_head = is_pair && lasts.len() < most;
+    Ok((Trials::Row(Row::new(part, lasts)), ends_head))
 }
 
 /// A trial with those that come next after it, at most so many: where one head is left of it, those that begin with it; where it
@@ -259,23 +272,10 @@ fn in_turn<'s, A: Allocator + Copy>(
     if first.placed().len() + 1 == heads {
         return in_branch(alloc, active, first, most, setting, binding);
     }
-    // For the proof: the rules are valid, and the labels of a store are at most the greatest.
-    let _rules = setting.program.rules();
-    let _given = setting.store.next_label();
-    let mut beside = second_beside(&first, active, setting, binding);
-    // Where the rule has two heads, its full trials at one of them differ in their last label alone.
-    let Some(beside) = &mut beside else {
-        return Ok((Trials::One(Single::of(first)), heads == 2));
-    };
-    let second = beside.1;
-    let (part, last) = first.split_last();
-    // For the proof: what holds of every trial.
-    let _placed = part.placed();
-    let mut lasts = beside.0.no_ends(alloc, most)?;
-    lasts.push(last)?;
-    push_ends(alloc, &mut beside.0, &mut lasts, second, most)?;
-    let ends_head = heads == 2 && lasts.len() < most;
-    Ok((Trials::Row(Row::new(part, lasts)), ends_head))
+    if first.placed().len() != heads {
+        return Ok((Trials::One(Single::of(first)), false));
+    }
+    in_row(alloc, active, first, most, setting, binding)
 }
 
 /// Moves a search past the last trial of a row.
