@@ -269,10 +269,11 @@ fn in_turn<'s, A: Allocator + Copy>(
             true,
         ));
     }
-    if first.placed().len() + 1 == heads {
+    let labels = first.placed().len();
+    if labels + 1 == heads {
         return in_branch(alloc, active, first, most, setting, binding);
     }
-    if first.placed().len() != heads {
+    if labels != heads {
         return Ok((Trials::One(Single::of(first)), false));
     }
     in_row(alloc, active, first, most, setting, binding)
@@ -378,9 +379,10 @@ pub fn read<A: Allocator + Copy>(
         plans,
         store,
     };
+    // The compiler clears its room once where it is made here, and twice where it is made after the others.
+    let mut binding = Binding::free(0);
     let mut sheet = Vec::new(alloc);
     let mut ahead = search.copy();
-    let mut binding = Binding::free(0);
     let mut left = most;
     while left > 0 {
         let Ask::Trial(first) = ahead.candidate(alloc, setting.program, plans, store)? else {
