@@ -25,8 +25,8 @@ abbrev pub marked_verdict : Bool → Verdict
 marked_verdict true = verdicts.Misfit
 marked_verdict false = verdicts.Part
 
--- the judgements of those in one place where none is whole: one alone is judged as its mark tells, a
--- branch is a part and then misfits, and the others are misfits
+-- the judgements of those in one place where none is whole: one alone is judged as its mark tells,
+-- a branch is a part and then misfits, and the others are misfits
 abbrev pub judged_at : {Z : Type 0} → CodeTrials Z → List Judgement
 judged_at (some.One s) = record { trial = s.trial; verdict = marked_verdict s.is_misfit } ∷ []
 judged_at (some.Row r) = map misfit (trials_of r)

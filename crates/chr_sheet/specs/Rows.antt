@@ -68,8 +68,8 @@ listed (Some j) = j ∷ []
 abbrev pub judgements_of : JudgedSheet → List Judgement
 judgements_of sheet = sheet.others ++ listed sheet.whole
 
--- the last one is whole where it is kept apart; no other is, and their verdicts are right; and all can
--- be counted
+-- the last one is whole where it is kept apart; no other is, and their verdicts are right; and all
+-- can be counted
 pub record IsJudgedSheet (sheet : JudgedSheet) : Type 0 where
   pub whole : MatchOption sheet.whole ⊤ (λ w. w.verdict ≡ verdicts.Whole)
   pub other : AllByRecursion (λ j. j.verdict ≢ verdicts.Whole) sheet.others
