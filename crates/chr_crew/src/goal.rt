@@ -5,7 +5,7 @@ ghost use Rattle.chr_pool.specs.Hands.{hand_id};
 ghost use Rattle.chr_seats.specs.Versions.{IsKnownAfter, IsKnownOf};
 
 use crate::gate::{Gate, Stop};
-use chr_book::MOST_IN_BATCH;
+use crate::record::Record;
 use chr_calls::{
     BatchReport, ClaimFault, DropFault, Dropping, FireFault, Fired, Firing, Following,
     PutDownFault, Sheet, SheetReport, Turn, TurnFault,
@@ -32,12 +32,6 @@ pub enum Left {
     /// E26.
     WrongSeat,
 }
-
-/// How many trials a sheet has at most that follows few judgements or none.
-const LEAST_SHEET: usize = MOST_IN_BATCH;
-
-/// How many trials any sheet has at most.
-const LARGEST_SHEET: usize = 256;
 
 /// The gate of the work on one ticket.
 #[derive(Drop)]
@@ -95,12 +89,6 @@ enum After {
     Left(Left),
 }
 
-/// How many trials the sheet after so many judgements has at most: twice as many, so that goals of many trials take few
-/// holds. A worker's next goal often takes about as many as the last one.
-fn size_after(judged: usize) -> usize {
-    judged.saturating_mul(2).max(LEAST_SHEET).min(LARGEST_SHEET)
-}
-
 /// How a worker leaves a ticket where a hold made no call.
 fn left_by(fault: HoldFault) -> Left {
     match fault {
@@ -139,7 +127,7 @@ fn judge_sheet<L1: PostLedger, A: Allocator + Copy, G: Gate>(
     given: Result<Sheet<A>, TurnFault>,
     known: Option<Known<L1, A>>,
     call: &mut Call<L1, A>,
-    judged: &mut usize,
+    record: &mut Record,
 ) -> After
     requires { IfSome known (λ k. IsKnownOf k.version k.search (sheet_of given)) }
 {
@@ -150,7 +138,7 @@ fn judge_sheet<L1: PostLedger, A: Allocator + Copy, G: Gate>(
             let trials = KnownTrials::of(trials, known);
             match trials.judge(alloc, &AtTicket { gate, ticket }) {
                 Ok(judgements) => {
-                    *judged = judgements.judgements().len();
+                    record.count_judged(judgements.judgements().len());
                     *call = fire_or_report(judgements);
                     After::Call
                 }
@@ -199,13 +187,13 @@ fn after_claim_sheet<L1: PostLedger, A: Allocator + Copy, G: Gate>(
         HoldFault,
     >,
     call: &mut Call<L1, A>,
-    judged: &mut usize,
+    record: &mut Record,
 ) -> After
     requires { IfOk answer (λ r. IfSome r.1 (λ k. IfOk (claimed_of r.0) (IsKnownOf k.version k.search))) }
 {
     match answer {
         Ok((claimed, known)) => match claimed {
-            Ok(given) => judge_sheet(gate, ticket, given, known, call, judged),
+            Ok(given) => judge_sheet(gate, ticket, given, known, call, record),
             Err(fault) => After::Left(left_unclaimed(fault)),
         },
         Err(fault) => After::Left(left_by(fault)),
@@ -218,12 +206,12 @@ fn after_sheet<L1: PostLedger, A: Allocator + Copy, G: Gate>(
     ticket: u64,
     answer: Result<(Result<Sheet<A>, TurnFault>, Option<Known<L1, A>>), HoldFault>,
     call: &mut Call<L1, A>,
-    judged: &mut usize,
+    record: &mut Record,
 ) -> After
     requires { IfOk answer (λ r. IfSome r.1 (λ k. IsKnownOf k.version k.search (sheet_of r.0))) }
 {
     match answer {
-        Ok((given, known)) => judge_sheet(gate, ticket, given, known, call, judged),
+        Ok((given, known)) => judge_sheet(gate, ticket, given, known, call, record),
         Err(fault) => After::Left(left_by(fault)),
     }
 }
@@ -284,7 +272,7 @@ fn after_report_sheet<L1: PostLedger, A: Allocator + Copy, G: Gate>(
     ticket: u64,
     answer: Result<(SheetReport<A>, Option<Known<L1, A>>), HoldFault>,
     call: &mut Call<L1, A>,
-    judged: &mut usize,
+    record: &mut Record,
 ) -> After
     requires { IfOk answer (λ r. IfSome r.1 (λ k. IsKnownAfter k.version k.search (following_of r.0.following))) }
 {
@@ -292,7 +280,7 @@ fn after_report_sheet<L1: PostLedger, A: Allocator + Copy, G: Gate>(
         Ok((report, known)) => match report.following {
             Following::Fire(answer) => after_firing(answer, call),
             Following::Drop(answer) => after_dropping(answer, call),
-            Following::Sheet(given) => judge_sheet(gate, ticket, given, known, call, judged),
+            Following::Sheet(given) => judge_sheet(gate, ticket, given, known, call, record),
             Following::Nothing(fault) => After::Left(left_without_turn(fault)),
         },
         Err(fault) => After::Left(left_by(fault)),
@@ -308,22 +296,22 @@ fn make<L1: PostLedger, L2: Ledger, A: Allocator + Copy, R: Wait, G: Gate>(
     ticket: u64,
     call: &mut Call<L1, A>,
     turns: u64,
-    judged: &mut usize,
+    record: &mut Record,
 ) -> After
     ensures number { seat.new.number ≡ seat.old.number }
     ensures posts { seat.new.counts.posts ≡ seat.old.counts.posts }
 {
-    let most = size_after(*judged);
+    let most = record.next_sheet();
     match call {
         _ if turns == 0 => After::Left(Left::Spent),
         Call::Claim if turns == 1 => after_claim(shared.claim(rt, seat, ticket), call),
         Call::Claim => {
             let answer = shared.claim_sheet(rt, seat, ticket, most);
-            after_claim_sheet(gate, ticket, answer, call, judged)
+            after_claim_sheet(gate, ticket, answer, call, record)
         }
         Call::Sheet => {
             let answer = shared.sheet(rt, seat, ticket, most);
-            after_sheet(gate, ticket, answer, call, judged)
+            after_sheet(gate, ticket, answer, call, record)
         }
         Call::Report(judgements) if turns == 1 => {
             let answer = shared.report_all(rt, seat, ticket, judgements.judgements());
@@ -331,7 +319,7 @@ fn make<L1: PostLedger, L2: Ledger, A: Allocator + Copy, R: Wait, G: Gate>(
         }
         Call::Report(judgements) => {
             let answer = shared.report_sheet(rt, seat, ticket, judgements, most);
-            after_report_sheet(gate, ticket, answer, call, judged)
+            after_report_sheet(gate, ticket, answer, call, record)
         }
         Call::Fire(whole) => match shared.fire(rt, seat, ticket, whole) {
             Ok(answer) => after_firing(answer, call),
@@ -344,12 +332,23 @@ fn make<L1: PostLedger, L2: Ledger, A: Allocator + Copy, R: Wait, G: Gate>(
     }
 }
 
-/// Pushes the tickets of a firing on the hand, and tells as many of those that rest as it leaves tickets for others. A ticket
-/// that the hand refuses is marked stray.
+/// Tells as many of the workers that rest that there is a ticket for each.
+pub(crate) fn tell<L1: PostLedger, L2: Ledger, A: Allocator + Copy, R: Wait>(
+    rt: &R,
+    shared: &Shared<L1, L2, A>,
+    tickets: usize,
+) {
+    if tickets > 0 {
+        shared.announce_some(rt, tickets);
+    }
+}
+
+/// Pushes the tickets of a firing on the hand, which leaves some for others. A ticket that the hand refuses is marked stray.
 fn push_new<L1: PostLedger, L2: Ledger, A: Allocator + Copy, R: Wait>(
     rt: &R,
     shared: &Shared<L1, L2, A>,
     hand: &mut Hand<u64>,
+    record: &mut Record,
     fired: Fired,
 )
     ensures { hand_id hand.new ≡ hand_id hand.old }
@@ -362,9 +361,7 @@ fn push_new<L1: PostLedger, L2: Ledger, A: Allocator + Copy, R: Wait>(
     }
     // Where its own goal has ended, the worker takes the next of these itself.
     let taken = usize::from(!fired.active_lives);
-    if fired.count > taken {
-        shared.announce_some(rt, fired.count - taken);
-    }
+    record.count_left(fired.count.saturating_sub(taken));
 }
 
 /// Leaves a ticket. One whose goal hasn't ended is put down, or marked where it isn't claimed. It is stray then.
@@ -400,7 +397,7 @@ pub fn work_on_ticket<L1: PostLedger, L2: Ledger, A: Allocator + Copy, R: Wait, 
     seat: &mut Seat<L1, L2>,
     gate: &G,
     stop: &mut Stop,
-    judged: &mut usize,
+    record: &mut Record,
     ticket: u64,
 ) -> Left
     ensures hand { hand_id hand.new ≡ hand_id hand.old }
@@ -410,18 +407,22 @@ pub fn work_on_ticket<L1: PostLedger, L2: Ledger, A: Allocator + Copy, R: Wait, 
     let mut call = Call::Claim;
     for _ in rt.forever() {
         let turns = stop.spend(call.turns(), shared.is_closed());
-        let left = match make(rt, shared, seat, gate, ticket, &mut call, turns, judged) {
-            After::Call => continue,
+        let left = match make(rt, shared, seat, gate, ticket, &mut call, turns, record) {
+            After::Call => None,
             After::Fired(fired) => {
-                push_new(rt, shared, hand, fired);
+                push_new(rt, shared, hand, record, fired);
                 if fired.active_lives {
-                    continue;
+                    None
+                } else {
+                    Some(Left::Free)
                 }
-                Left::Free
             }
-            After::Left(left) => left,
+            After::Left(left) => Some(left),
         };
-        return leave(rt, shared, seat, ticket, left);
+        tell(rt, shared, record.tell_many());
+        if let Some(left) = left {
+            return leave(rt, shared, seat, ticket, left);
+        }
     }
     unreachable!()
 }

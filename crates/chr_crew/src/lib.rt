@@ -10,11 +10,12 @@
 //! the queue that sessions feed and for a stray ticket, in turn, so that tickets of its own without end keep none of these
 //! waiting.
 //!
-//! A worker sleeps where it finds nothing to take. It is woken for the tickets of a post or a firing, of which each wakes one
-//! worker that rests; by tickets that another worker leaves; and by the close of the crew. A ticket whose call met want of
-//! memory (E01) or of labels (E10) is marked stray, and wakes nobody, since the next worker would mostly meet the same want:
-//! the worker that met it looks again after the next announcement, if only one that came while it worked. Once the crew is
-//! closed, a worker puts its goal down before its next call.
+//! A worker sleeps where it finds nothing to take. It is woken for the tickets of a post, of which each wakes one worker that
+//! rests; for those that firings leave in another worker's hand, once they are eight, or that worker's goals take sixteen trials
+//! or more, or it looks elsewhere; by tickets that another worker leaves as it ends; and by the close of the crew. A ticket whose
+//! call met want of memory (E01) or of labels (E10) is marked stray, and wakes nobody, since the next worker would mostly meet
+//! the same want: the worker that met it looks again after the next announcement, if only one that came while it worked. Once the
+//! crew is closed, a worker puts its goal down before its next call.
 //!
 //! [`run_crew`] runs up to sixteen workers on a book, each in a thread of its own, until they have made so
 //! many calls or find nothing to take. Its contract says of the book that comes back that it has the headline of `chr_calls`
@@ -31,6 +32,7 @@ mod crew;
 mod gate;
 mod goal;
 mod rack;
+mod record;
 pub mod work;
 mod worker;
 

@@ -3,17 +3,14 @@ ghost use Rattle.std.specs.Prelude.{◌≡◌};
 ghost use Rattle.chr_pool.specs.Hands.{hand_id};
 
 use crate::gate::{Gate, Stop};
-use crate::goal::{Left, work_on_ticket};
+use crate::goal::{Left, tell, work_on_ticket};
+use crate::record::{FirstLook, Record};
 use chr_pool::Hand;
 use chr_seats::{PostLedger, Seat};
 use chr_shared::{Rest, Shared};
 use std::alloc::Allocator;
 use std::sync::Wait;
 use std::sync::ledger::Ledger;
-
-/// After so many tickets a worker looks elsewhere first than in its own deque, in turn for what was posted and for what is stray,
-/// so that no chain of its own keeps these waiting.
-const TICKETS_A_LOOK: u64 = 32;
 
 /// What a worker does next.
 #[derive(Clone, Copy)]
@@ -26,26 +23,19 @@ enum Next {
     Ended,
 }
 
-/// Whether a worker looks elsewhere first, after so many tickets.
-fn looks_elsewhere(worked: u64) -> bool {
-    worked % TICKETS_A_LOOK == TICKETS_A_LOOK - 1
-}
-
-/// A ticket of the pool, else the least stray one, after so many tickets.
+/// A ticket of the pool, else the least stray one, or in another order where it is time to look elsewhere first.
 fn find<L1: PostLedger, L2: Ledger, A: Allocator + Copy, R: Wait>(
     rt: &R,
     shared: &Shared<L1, L2, A>,
     hand: &mut Hand<u64>,
-    worked: u64,
+    first_look: FirstLook,
 ) -> Option<u64>
     ensures { hand_id hand.new ≡ hand_id hand.old }
 {
-    let first = if !looks_elsewhere(worked) {
-        None
-    } else if worked / TICKETS_A_LOOK % 2 == 0 {
-        hand.take_fed(rt)
-    } else {
-        shared.take_stray(rt)
+    let first = match first_look {
+        FirstLook::Own => None,
+        FirstLook::Posted => hand.take_fed(rt),
+        FirstLook::Stray => shared.take_stray(rt),
     };
     if first.is_some() {
         return first;
@@ -74,7 +64,8 @@ fn rest<L1: PostLedger, L2: Ledger, A: Allocator + Copy, R: Wait>(
     }
 }
 
-/// Looks for a ticket and works on it, or sleeps where it finds none. It has worked on so many before.
+/// Looks for a ticket and works on it, or sleeps where it finds none. Before it works on one that it looked elsewhere for, and
+/// before it sleeps while it has others, it tells of those that it has left.
 fn look_once<L1: PostLedger, L2: Ledger, A: Allocator + Copy, R: Wait, G: Gate>(
     rt: &R,
     shared: &Shared<L1, L2, A>,
@@ -82,8 +73,7 @@ fn look_once<L1: PostLedger, L2: Ledger, A: Allocator + Copy, R: Wait, G: Gate>(
     seat: &mut Seat<L1, L2>,
     gate: &G,
     stop: &mut Stop,
-    worked: &mut u64,
-    judged: &mut usize,
+    record: &mut Record,
 ) -> Next
     ensures hand { hand_id hand.new ≡ hand_id hand.old }
     ensures number { seat.new.number ≡ seat.old.number }
@@ -94,18 +84,26 @@ fn look_once<L1: PostLedger, L2: Ledger, A: Allocator + Copy, R: Wait, G: Gate>(
     }
     // What was announced before this is found now, and what is announced later ends the rest.
     let seen = shared.news();
-    let Some(ticket) = find(rt, shared, hand, *worked) else {
+    let first_look = record.first_look();
+    let Some(ticket) = find(rt, shared, hand, first_look) else {
+        // All that it left is taken.
+        record.tell_all();
         return rest(rt, shared, *stop, seen);
     };
-    let left = work_on_ticket(rt, shared, hand, seat, gate, stop, judged, ticket);
-    let looked_elsewhere = looks_elsewhere(*worked);
-    *worked = worked.wrapping_add(1);
+    record.count_ticket();
+    if first_look != FirstLook::Own {
+        tell(rt, shared, record.tell_all());
+    }
+    let left = work_on_ticket(rt, shared, hand, seat, gate, stop, record, ticket);
     match (left, *stop) {
         (Left::Free, _) => Next::Look,
         // What it looked elsewhere for may want memory that its own tickets don't want.
-        (Left::Want, _) if looked_elsewhere => Next::Look,
+        (Left::Want, _) if first_look != FirstLook::Own => Next::Look,
         // What came since may be the memory that it wants.
-        (Left::Want, Stop::Closed) => rest(rt, shared, *stop, seen),
+        (Left::Want, Stop::Closed) => {
+            tell(rt, shared, record.tell_all());
+            rest(rt, shared, *stop, seen)
+        }
         _ => Next::Leave,
     }
 }
@@ -133,20 +131,10 @@ pub fn work<L1: PostLedger, L2: Ledger, A: Allocator + Copy, R: Wait, G: Gate>(
     ensures posts { seat.new.counts.posts ≡ seat.old.counts.posts }
 {
     let mut stop = stop;
-    let mut worked: u64 = 0;
-    let mut judged = 0;
+    let mut record = Record::new();
     shared.begin(rt);
     for _ in rt.forever() {
-        match look_once(
-            rt,
-            shared,
-            hand,
-            seat,
-            gate,
-            &mut stop,
-            &mut worked,
-            &mut judged,
-        ) {
+        match look_once(rt, shared, hand, seat, gate, &mut stop, &mut record) {
             Next::Look => {}
             Next::Leave => {
                 shared.announce(rt);

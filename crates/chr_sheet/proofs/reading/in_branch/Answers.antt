@@ -1,4 +1,4 @@
-use Rattle.std.proofs.Common.{◌≡◌, ◌<◌, ◌≤◌, ◌+◌, ◌-◌, ◌∷◌, [], ◌++◌, map, length, refl, sym, ap, subst, ◌∙◌, arith, true-eqb}
+use Rattle.std.proofs.Common.{◌≡◌, ◌<◌, ◌≤◌, ◌-◌, ◌∷◌, [], ◌++◌, map, length, refl, sym, ap, subst, ◌∙◌, arith, true-eqb}
 use Rattle.std.proofs.lemmas.Bool.{ltb-true}
 use Rattle.chr_sheet.proofs.Words.{length-map, placed_as, MayEnd, IsEndFrom, IsFront, Space, space_in, labels, position, AreEnds, ComeNext, EndHead, next_from, Row, branch_trials, trials_of}
 use Rattle.chr_search.specs.Tree.{NoneFrom}
@@ -56,9 +56,9 @@ pub returns-in_default-clause-last : goal.returns-in_default-clause-last
 returns-in_default-clause-last g c = λ told.
     let s : Space = space_in c.args.setting.now c.args.active in
     let t = c.args.part in
-    subst (λ z. EndHead s (z.trial ∷ [])) (sym c.of.ensures)
+    subst (λ z. EndHead s (z.trial ∷ [])) (sym c.of-in_default.ensures)
     (part_ends s t c.requires.first.0 (sym (count g (goal.at.returns-in_default-clause-last g c).After-placed-placed) ∙ true-eqb _ 1 (sym told))
-    (none_as s c.number.result t.number c.head.result t.head (map (λ p. p.label) c.placed-placed.result.now) (labels t) 0 c.number.ensures c.head.ensures (labels_read placed_as c.placed-placed.result.now t c.placed-placed.ensures.placed) c.in_default.ensures)
+    (none_as s c.number.result t.number c.head.result t.head (map (λ p. p.label) c.placed-placed.result.now) (labels t) 0 c.number.ensures c.head.ensures (labels_read placed_as c.placed-placed.result.now t c.placed-placed.ensures.placed) c.in_default.ensures))
 
 pub returns-in_default-next-clause-last : goal.returns-in_default-next-clause-last
 returns-in_default-next-clause-last g c = λ told.

@@ -77,8 +77,9 @@ returns-in_default-of-clause-last g c = λ told.
     let t = c.args.first in
     let at = goal.at.returns-in_default-of-clause-last g c in
     let ls = map (λ p. p.label) c.in-Some.before.now in
-    pair_ends s c.requires.plans c.rules-rules.ensures.valid t c.requires.first.0 c.requires.first.1 (sym (count g at.After-placed-placed) ∙ true-eqb _ 2 (sym told)) c.requires.full ls c.in-Some.last.now.label (split g at.In-Some)
-    (none_as s c.number.result t.number c.head.result t.head ls ls (c.in-Some.last.now.label + 1) c.number.ensures c.head.ensures refl c.in_default-of.ensures)
+    subst (λ z. EndHead s (z.trial ∷ [])) (sym c.of-in_default-of.ensures)
+    (pair_ends s c.requires.plans c.rules-rules.ensures.valid t c.requires.first.0 c.requires.first.1 (sym (count g at.After-placed-placed) ∙ true-eqb _ 2 (sym told)) c.requires.full ls c.in-Some.last.now.label (split g at.In-Some)
+    (none_as s c.number.result t.number c.head.result t.head ls ls (c.in-Some.last.now.label + 1) c.number.ensures c.head.ensures refl c.in_default-of.ensures))
 
 pub returns-in_default-next-clause-last : goal.returns-in_default-next-clause-last
 returns-in_default-next-clause-last g c = λ told.
@@ -87,8 +88,9 @@ returns-in_default-next-clause-last g c = λ told.
     let at = goal.at.returns-in_default-next-clause-last g c in
     let ls = map (λ p. p.label) c.in-Some.before.now in
     let next = c.next.ensures s t.number t.head ls (front g at.In-Some-of) in
-    pair_ends s c.requires.plans c.rules-rules.ensures.valid t c.requires.first.0 c.requires.first.1 (sym (count g at.After-placed-placed) ∙ true-eqb _ 2 (sym told)) c.requires.full ls c.in-Some.last.now.label (split g at.In-Some)
-    (subst (IsEndFrom s (t.number ∷ t.head ∷ ls) (c.in-Some.last.now.label + 1)) c.in_default-next.is next.0)
+    subst (λ z. EndHead s (z.trial ∷ [])) (sym c.of-in_default-next.ensures)
+    (pair_ends s c.requires.plans c.rules-rules.ensures.valid t c.requires.first.0 c.requires.first.1 (sym (count g at.After-placed-placed) ∙ true-eqb _ 2 (sym told)) c.requires.full ls c.in-Some.last.now.label (split g at.In-Some)
+    (subst (IsEndFrom s (t.number ∷ t.head ∷ ls) (c.in-Some.last.now.label + 1)) c.in_default-next.is next.0))
 
 pub returns-clause-last : goal.returns-clause-last
 returns-clause-last g c = λ told.
