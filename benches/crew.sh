@@ -1,8 +1,9 @@
 #!/usr/bin/env bash
-# Prints, as tables in Markdown, how many milliseconds `chr serve` takes with 1, 2 and 4 workers for six kinds of work, beside
+# Prints, as tables in Markdown, how many milliseconds `chr serve` takes with 1, 2 and 4 workers for seven kinds of work, beside
 # `chr run` on the same: trials by a dear guard, by a cheap guard, by a guard over six heads, firings of one-head rules in
-# pipelines side by side, in one chain, and in countdowns side by side. For a server it is the time from the first post to the
-# answer `quiet`, for `chr run` that of the whole process. All are run by turns, TURNS times, which is twenty unless it is set;
+# pipelines side by side, in one chain, and in countdowns side by side, and unions, whose firings give several short goals. For
+# a server it is the time from the first post to the answer `quiet`, for `chr run` that of the whole process. All are run by
+# turns, TURNS times, which is twenty unless it is set;
 # the median is printed, and the best in parentheses. Two servers are best compared by their medians: the processors of a
 # virtual machine are faster at times, one by one, and a best of one worker is that of one processor at such a time.
 # Then how many times as fast more workers are than one and than `chr run`, by the medians, and which share of their time the
@@ -45,6 +46,17 @@ SIX = trials(
 )
 PIPES = "".join(f"s({step}, X) <=> s({step + 1}, X).\n" for step in range(61))
 COUNTDOWN = "c(X) <=> X > 0 | Y is X - 1, c(Y).\n"
+# The unions come one after another.
+UNIONS = """
+build(0, N) <=> join(N).
+build(I, N) <=> 0 < I | J is I - 1, root(I), build(J, N).
+join(1) <=> true.
+join(I) <=> 1 < I | J is I - 1, union(I, J, J).
+union(A, A, J) <=> join(J).
+up(A, B) \\ union(A, C, J) <=> union(B, C, J).
+up(A, B) \\ union(C, A, J) <=> union(C, B, J).
+root(A) \\ root(B), union(A, B, J) <=> up(B, A), join(J).
+"""
 FIVES = ", ".join(numbered(name, 5) for name in "abcde")
 
 
@@ -65,6 +77,7 @@ KINDS = [
     ("12,200 firings, 200 pipelines over 61 rules of one head", PIPES, "", pipelines(200), pipelines(20), 1220, "firings"),
     ("20,000 firings, a chain of one rule of one head", COUNTDOWN, "", countdowns(1, 20000), countdowns(1, 1000), 1000, "firings"),
     ("19,200 firings, 64 countdowns by the same rule", COUNTDOWN, "", countdowns(64, 300), countdowns(16, 100), 1600, "firings"),
+    ("11,998 firings, unions of 3,000 elements", UNIONS, "", "build(3000, 3000)", "build(300, 300)", 1198, "firings"),
 ]
 
 
