@@ -1,8 +1,9 @@
 #!/usr/bin/env bash
 # Prints, as a table in Markdown, how many firings a second `chr serve` makes with 1, 2 and 4 workers, and how often its threads
 # give up a processor for each thousand of them, for two programs: a chain, in which each firing adds the one constraint that the
-# next one takes, and 64 countdowns side by side. The time is that from the first post to the answer `quiet`, the best of five
-# servers. Then, for servers with a log of a million entries, how many firings a second two workers make alone, and beside a
+# next one takes, and 64 countdowns side by side. The time is that from the first post to the answer `quiet`. All are run by turns,
+# each by a server of its own, TURNS times, which is twenty unless it is set; those of the best server are printed, and of the
+# median. Then, for servers with a log of a million entries, how many firings a second two workers make alone, and beside a
 # client that reads again and again: the log, its last thirty-third or thirtieth, an empty store, or one of 50,000 constraints;
 # and beside fourteen clients that wait. It builds nothing: run it by hand, on an idle machine with four processors, once
 # `./chr` is built.
@@ -14,8 +15,9 @@ if [ ! -x "$program" ]; then
   exit 2
 fi
 exec python3 - "$program" <<'PYTHON'
-import os, resource, socket, subprocess, sys, tempfile, threading, time
+import os, resource, socket, statistics, subprocess, sys, tempfile, threading, time
 
+TURNS, WORKERS = int(os.environ.get("TURNS", "20")), (1, 2, 4)
 CHAIN = b"gcd(0) <=> true.\ngcd(N) \\ gcd(M) <=> 0 < N, N =< M | L is M - N, gcd(L).\n"
 COUNTDOWN = b"n(I, 0) <=> true.\nn(I, K) <=> 0 < K | L is K - 1, n(I, L).\n"
 PROGRAMS = [
@@ -51,13 +53,20 @@ def spent(rules, posts, workers, path):
     return seconds, after.ru_nvcsw - before.ru_nvcsw
 
 
-print("| Program | Firings | Workers | Firings a second | Pauses for 1,000 firings |")
-print("|---|---|---|---|---|")
+print("| Program | Firings | Workers | Firings a second, best | Median | Pauses for 1,000 firings of the best |")
+print("|---|---|---|---|---|---|")
 with tempfile.TemporaryDirectory() as room:
-    for name, rules, posts, firings in PROGRAMS:
-        for workers in (1, 2, 4):
-            seconds, pauses = min(spent(rules, posts, workers, os.path.join(room, "socket")) for _ in range(5))
-            print(f"| {name} | {firings} | {workers} | {firings / seconds:,.0f} | {1000 * pauses / firings:.1f} |", flush=True)
+    path, runs = os.path.join(room, "socket"), {}
+    for _ in range(TURNS):
+        for name, rules, posts, _ in PROGRAMS:
+            for workers in WORKERS:
+                runs.setdefault((name, workers), []).append(spent(rules, posts, workers, path))
+    for name, _, _, firings in PROGRAMS:
+        for workers in WORKERS:
+            seconds, pauses = min(runs[name, workers])
+            middle = statistics.median(it for it, _ in runs[name, workers])
+            rates = f"{firings / seconds:,.0f} | {firings / middle:,.0f}"
+            print(f"| {name} | {firings} | {workers} | {rates} | {1000 * pauses / firings:.1f} |", flush=True)
 
 
 class Client:
