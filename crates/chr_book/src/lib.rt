@@ -26,7 +26,8 @@
 //!
 //! [`of_text`](Book::of_text) opens a book of the rules of a text; [`post_text`](Book::post_text) posts the atoms of a text, by the book's own names;
 //! [`store_lines`](Book::store_lines) and [`log_lines`](Book::log_lines) write the lines of the store and of the
-//! log; [`strict_log`](Book::strict_log) is the log with its drops after the other entries, where no ticket is open.
+//! log; [`into_store_lines`](Book::into_store_lines) gives those of the store once the log has gone;
+//! [`strict_log`](Book::strict_log) is the log with its drops after the other entries, where no ticket is open.
 //! [`shot`](Book::shot) is a copy of program, store and log, and [`continues`](Book::continues) tells whether a
 //! book goes on from one by the work of its seats alone.
 //!

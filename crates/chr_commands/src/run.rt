@@ -11,14 +11,13 @@ use std::alloc::{AllocError, Global};
 use std::rt::{Clock, Files};
 use std::{fs, io};
 
-/// Writes what is shown of a run to standard output.
+/// Writes the bytes that show a run to standard output, where there was memory for them.
 fn print_shown(
     rt: &(impl Print + Eprint + AllocGlobal),
     detail: Detail,
-    ran: &Ran<Global>,
-    show: Show,
+    bytes: Result<Vec<u8>, AllocError>,
 ) -> Status {
-    match ran.shown(rt.alloc(), show) {
+    match bytes {
         Ok(bytes) => print(rt, detail, &bytes),
         Err(AllocError) => report_no_memory(rt, detail),
     }
@@ -38,27 +37,48 @@ fn write(
     fs::write(rt, path, bytes.as_slice())
 }
 
-/// Writes what a run gives: what the options ask for to standard output, and then the log and the store to their files.
-/// Ends at the first that can't be written.
-fn give<R: Files + Print + Eprint + AllocGlobal>(
+/// Writes the log and the store of a run to the files that the options name. Ends at the first that can't be written.
+fn write_files<R: Files + Eprint + AllocGlobal>(
     rt: &R,
     detail: Detail,
     ran: &Ran<Global>,
     options: RunOptions<'_>,
 ) -> Status {
-    let status = print_shown(rt, detail, ran, options.show);
-    if status != Status::Done {
-        return status;
-    }
     let files = [(options.log, Show::Log), (options.store, Show::Store)];
     for (path, show) in files {
         if let Err(error) = write(rt, ran, show, path) {
             return report_failure(rt, detail, path.unwrap_or(""), &error);
         }
     }
-    match ran.end {
-        End::Quiet => Status::Done,
-        End::Open => Status::Open,
+    Status::Done
+}
+
+/// Writes what a run gives: what the options ask for to standard output, and then the log and the store to their files.
+/// Ends at the first that can't be written.
+fn give<R: Files + Print + Eprint + AllocGlobal>(
+    rt: &R,
+    detail: Detail,
+    ran: Ran<Global>,
+    options: RunOptions<'_>,
+) -> Status {
+    let end = ran.end;
+    if options.log.is_none() && options.store.is_none() {
+        // Nothing else is made of the run, so it needn't last.
+        let status = print_shown(rt, detail, ran.into_shown(rt.alloc(), options.show));
+        return status_at(end, status);
+    }
+    let status = match print_shown(rt, detail, ran.shown(rt.alloc(), options.show)) {
+        Status::Done => write_files(rt, detail, &ran, options),
+        status => status,
+    };
+    status_at(end, status)
+}
+
+/// The status of a run that ended so, where what it gives was written with this one.
+fn status_at(end: End, written: Status) -> Status {
+    match (written, end) {
+        (Status::Done, End::Open) => Status::Open,
+        _ => written,
     }
 }
 
@@ -102,9 +122,9 @@ pub fn run_sources<R: Files + Clock + Print + Eprint + AllocGlobal>(
         labels,
         &mut progress,
     );
-    match &ran {
+    match ran {
         Ok(ran) => give(rt, detail, ran, options),
-        Err(fault) => report_texts_fault(rt, detail, program, posts, *fault),
+        Err(fault) => report_texts_fault(rt, detail, program, posts, fault),
     }
 }
 

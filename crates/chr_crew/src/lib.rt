@@ -11,8 +11,9 @@
 //! waiting.
 //!
 //! A worker sleeps where it finds nothing to take. It is woken for the tickets of a post, of which each wakes one worker that
-//! rests; for those that firings leave in another worker's hand, once they are eight, or that worker's goals take sixteen trials
-//! or more, or it looks elsewhere; by tickets that another worker leaves as it ends; and by the close of the crew. A ticket whose
+//! rests; for those that firings leave in another worker's hand; by tickets that another worker leaves as it ends; and by the
+//! close of the crew. Those of its firings a worker tells of at once while its goals take sixteen trials or more in a sheet, and
+//! until sixteen goals in a row have taken fewer; from then on only once they are eight, or it looks elsewhere. A ticket whose
 //! call met want of memory (E01) or of labels (E10) is marked stray, and wakes nobody, since the next worker would mostly meet
 //! the same want: the worker that met it looks again after the next announcement, if only one that came while it worked. Once the
 //! crew is closed, a worker puts its goal down before its next call.

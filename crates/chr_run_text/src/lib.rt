@@ -1,8 +1,8 @@
 //! A whole run: from the texts of a program and of posts to the text of what became of them.
 //!
 //! [`run_texts`] posts the atoms of any number of texts, one text after another, and gives the run, which
-//! is then [shown](Ran::shown) in as many ways as are wanted. [`run_text`] is that of one text of
-//! posts, shown in one way.
+//! is then [shown](Ran::shown) in as many ways as are wanted, the last of which may [let it go](Ran::into_shown).
+//! [`run_text`] is that of one text of posts, shown in one way.
 //!
 //! A run reads all texts with one table of names, opens a book, posts all atoms in order, and lets one seat make calls until
 //! no ticket is open, or as many as are asked for: each is for the least open ticket, which is claimed, searched trial by

@@ -130,14 +130,12 @@ fn run_on<A: Allocator + Copy, W: Watch>(
 }
 
 /// What is shown of a run, with its end.
-fn run_out<A: Allocator + Copy>(alloc: A, ran: &Ran<A>, show: Show) -> Result<RunOut<A>, RunFault>
-    ensures { IsShown show ran.now.end ran.now.book result }
+fn run_out<A: Allocator + Copy>(alloc: A, ran: Ran<A>, show: Show) -> Result<RunOut<A>, RunFault>
+    ensures { IsShown show ran.entry.end ran.entry.book result }
 {
-    match ran.shown(alloc, show) {
-        Ok(bytes) => Ok(RunOut {
-            bytes,
-            end: ran.end,
-        }),
+    let end = ran.end;
+    match ran.into_shown(alloc, show) {
+        Ok(bytes) => Ok(RunOut { bytes, end }),
         Err(_) => Err(RunFault::Memory),
     }
 }
@@ -212,7 +210,7 @@ pub fn watched_run<A: Allocator + Copy, W: Watch>(
     ensures { IsRunText program.now posts.now steps labels show result }
 {
     match watched_run_texts(alloc, program, &[posts], steps, labels, watch) {
-        Ok(ran) => run_out(alloc, &ran, show),
+        Ok(ran) => run_out(alloc, ran, show),
         Err(fault) => Err(whole_fault(fault)),
     }
 }
