@@ -1,5 +1,5 @@
 -- Atoms in slots by label.
-use Rattle.std.proofs.Common.{◌≡◌, ◌≢◌, ◌⊎◌, ℕ, zero, suc, ◌+◌, ◌-◌, ◌<◌, ◌≤◌, if◌then◌else◌, Bool, List, [], ◌∷◌, ◌++◌, Option, Some, None, inl, inr, refl, sym, ap, ap₂, arith, length, ◌∙◌, slice_get, slice_set, Bor, true, false, ◌==◌, ◌*◌, ◌/◌, subst, take, drop, slice_index, get_or, option_map, slice_index_or, count_by, is_some, IsSome}
+use Rattle.std.proofs.Common.{◌≡◌, ◌≢◌, ℕ, zero, suc, ◌+◌, ◌-◌, ◌<◌, ◌≤◌, if◌then◌else◌, Bool, List, [], ◌∷◌, ◌++◌, Option, Some, None, inl, inr, refl, sym, ap, ap₂, arith, length, ◌∙◌, slice_get, slice_set, Bor, true, false, ◌==◌, ◌*◌, ◌/◌, subst, take, drop, slice_index, get_or, option_map}
 use Rattle.std.specs.Option.{option_flatten, option_map, option_copied}
 use Rattle.std.specs.Slice.{IsItemAt}
 use Rattle.std.proofs.lemmas.Bool.{eq-eqb, cases_eq, cases_lt}
@@ -10,12 +10,12 @@ use Rattle.std.proofs.lemmas.Option.{slice_get-map, slice_get_past, slice_get_re
 use Rattle.chr_value.specs.Atoms.{Atom}
 use Rattle.chr_value.specs.Stores.{Store, atom_at, drop_label}
 use Rattle.chr_store.specs.Labels.{GivenAtoms, Rising, GivenBefore, IsLabelled}
-use Rattle.chr_store.specs.Table.{Held, atom_in, no_slot, held_in, entries_from, IsSlotOf, IsOwnSlot, AreApart, IsTable}
+use Rattle.chr_store.specs.Table.{Held, atom_in, no_slot, held_in, entries_from, IsSlotOf, IsOwnSlot, AreApart, AreOnce, IsTable}
 use Rattle.std.specs.List.{AllByRecursion}
 use Rattle.chr_value.proofs.Places.{all-push}
+use Rattle.chr_index.proofs.Slots.{all_map}
 use Rattle.std.proofs.Math.Seq.{get_or-append_seam}
 use Rattle.std.proofs.lemmas.Grind.{get_or_default_zero}
-use Rattle.slab.specs.Slab.{Slab, get, slab_len, Updates}
 use Rattle.chr_store.specs.Blocks.{one_in, atoms_in, AreCounts, AreEmptyAtNone}
 
 given_push : (n : ℕ) (a : Atom ℕ) (es : Store) → 1 ≤ n → GivenBefore n es → GivenBefore (n + 1) (es ++ (n, a) ∷ [])
@@ -60,7 +60,7 @@ labelled_drop l n k es h = record {
   limit = h.limit;
 }
 
--- what contracts see of a slab and the slots of labels, without a label, and with an atom more
+-- what contracts see of the atoms and the slots of labels, without a label, and with an atom more
 abbrev pub table_of : Held → List ℕ → GivenAtoms
 table_of held slots = record { entries = entries_from 1 (held_in held slots); next = length slots + 1 }
 
@@ -138,7 +138,7 @@ at_most first [] = omega arith
 at_most first (None ∷ xs) = let rest = at_most (first + 1) xs in omega arith
 at_most first (Some a ∷ xs) = let rest = at_most (first + 1) xs in omega arith
 
--- ---- over the slab
+-- ---- over the slots
 
 -- what a `get` of a slice shows
 pub looked_at : {X : Type 0} (xs : List X) (i : ℕ) (r : Option (Bor X)) → IsItemAt xs i r → slice_get xs i ≡ option_copied r
@@ -168,7 +168,7 @@ module _ (held : Held) (slots : List ℕ) (i : ℕ) (lt : i < length slots) (mad
   pub copied_some : (a : Atom ℕ) → atom_in held (slice_index slots i) ≡ Some a → with_atom a made ≡ table_of held (take (i + 1) slots)
   copied_some a is = ap (with_atom a) so_far ∙ sym (ap (table_of held) next_slot ∙ with_some held (take i slots) (slice_index slots i) a is)
 
-module _ (held : Held) (slots : List ℕ) (t : IsTable held slots) where
+module _ (held : Held) (free slots : List ℕ) (t : IsTable held free slots) where
   fits : length (held_in held slots) ≤ 4294967295
   fits = let within : length slots ≤ 4294967295 = t.within in omega (arith, length-map slots (atom_in held))
 
@@ -324,89 +324,197 @@ module _ (old new : Held) (k : ℕ) (others : (other : ℕ) → other ≢ k → 
   held_same [] h = refl
   held_same (s ∷ slots) h = ap₂ (λ x (xs : Labelled). x ∷ xs) (others s h.0) (held_same slots h.1)
 
-  own_same : (s : ℕ) (slots : List ℕ) → s ≢ k → (s ≡ no_slot) ⊎ IsOwnSlot old s slots → (s ≡ no_slot) ⊎ IsOwnSlot new s slots
-  own_same s slots d o = elim o [ inl e ↦ inl e | inr is ↦ inr (record { full = subst IsSome (sym (others s d)) is.full; own = is.own }) ]
+-- with no fewer slots, each is its own as before
+module _ (old new : Held) (more : length old ≤ length new) where
+  still_there : (s : ℕ) → s < length old → s < length new
+  still_there s lt = omega (arith, lt, more)
 
-  apart_same : (slots : List ℕ) → AllByRecursion (λ s. s ≢ k) slots → AreApart old slots → AreApart new slots
-  apart_same [] h a = tt
-  apart_same (s ∷ slots) h a = (own_same s slots h.0 a.0, apart_same slots h.1 a.1)
+  apart_more : (slots : List ℕ) → AreApart old slots → AreApart new slots
+  apart_more [] a = tt
+  apart_more (s ∷ slots) a = (elim a.0 [ inl e ↦ inl e | inr o ↦ inr (record { there = still_there s o.there; own = o.own }) ], apart_more slots a.1)
 
-not_none : (x : Option (Atom ℕ)) → x ≡ None → IsSome x → ⊥
-not_none None e h = absurd (cc)
-not_none (Some a) e h = absurd (cc)
+-- a slot that there is differs from that of a label without an atom
+not_there : (held : Held) (s : ℕ) → length held ≤ no_slot → s < length held → no_slot ≢ s
+not_there held s fits lt = λ same. omega (arith, same, fits, lt)
 
--- a slot without an atom is that of no label
-unused : (held : Held) (k : ℕ) (slots : List ℕ) → atom_in held k ≡ None → k < no_slot → AreApart held slots → AllByRecursion (λ s. s ≢ k) slots
-unused held k [] none lt a = tt
-unused held k (s ∷ slots) none lt a = (elim a.0 [ inl e ↦ λ same. omega arith | inr o ↦ λ same. not_none (atom_in held s) (ap (atom_in held) same ∙ none) o.full ], unused held k slots none lt a.1)
+none_past : (held : Held) → length held ≤ no_slot → atom_in held no_slot ≡ None
+none_past held fits = slice_get_past held no_slot fits
+
+-- the slot of a label is there
+pub slot_there : (held : Held) (slots : List ℕ) (i k : ℕ) → AreApart held slots → slice_get slots i ≡ Some k → k ≢ no_slot → k < length held
+slot_there held [] i k a at is = absurd (cc)
+slot_there held (s ∷ slots) zero k a at is = (let same : s ≡ k = cc in elim a.0 [ inl none ↦ absurd (is (sym same ∙ none)) | inr o ↦ subst (λ z. z < length held) same o.there ])
+slot_there held (s ∷ slots) (suc i) k a at is = slot_there held slots i k a.1 at is
+
+-- one slot more is that of no label
+past_all : (held : Held) (slots : List ℕ) → length held < no_slot → AreApart held slots → AllByRecursion (λ s. s ≢ length held) slots
+past_all held [] lt a = tt
+past_all held (s ∷ slots) lt a = (elim a.0 [ inl e ↦ λ same. omega (arith, e, same, lt) | inr o ↦ λ same. (let was : s < length held = o.there in omega (arith, was, same)) ], past_all held slots lt a.1)
 
 -- one label more, without a slot and with one
-apart_skipped : (held : Held) (slots : List ℕ) → atom_in held no_slot ≡ None → AreApart held slots → AreApart held (slots ++ no_slot ∷ [])
-apart_skipped held [] none a = (inl refl, tt)
-apart_skipped held (s ∷ slots) none a = (
+apart_skipped : (held : Held) (slots : List ℕ) → length held ≤ no_slot → AreApart held slots → AreApart held (slots ++ no_slot ∷ [])
+apart_skipped held [] fits a = (inl refl, tt)
+apart_skipped held (s ∷ slots) fits a = (
   elim a.0 [
     | inl e ↦ inl e
-    | inr o ↦ inr (record { full = o.full; own = all-push (λ other. other ≢ s) slots no_slot o.own (λ same. not_none (atom_in held s) (ap (atom_in held) (sym same) ∙ none) o.full) })
+    | inr o ↦ inr (record { there = o.there; own = all-push (λ other. other ≢ s) slots no_slot o.own (not_there held s fits o.there) })
   ],
-  apart_skipped held slots none a.1,
+  apart_skipped held slots fits a.1,
 )
 
-apart_filled : (held : Held) (k : ℕ) (slots : List ℕ) → IsSome (atom_in held k) → AllByRecursion (λ s. s ≢ k) slots → AreApart held slots → AreApart held (slots ++ k ∷ [])
-apart_filled held k [] full free a = (inr (record { full = full; own = tt }), tt)
-apart_filled held k (s ∷ slots) full free a = (
+apart_filled : (held : Held) (k : ℕ) (slots : List ℕ) → k < length held → AllByRecursion (λ s. s ≢ k) slots → AreApart held slots → AreApart held (slots ++ k ∷ [])
+apart_filled held k [] there own a = (inr (record { there = there; own = tt }), tt)
+apart_filled held k (s ∷ slots) there own a = (
   elim a.0 [
     | inl e ↦ inl e
-    | inr o ↦ inr (record { full = o.full; own = all-push (λ other. other ≢ s) slots k o.own (λ same. free.0 (sym same)) })
+    | inr o ↦ inr (record { there = o.there; own = all-push (λ other. other ≢ s) slots k o.own (λ same. own.0 (sym same)) })
   ],
-  apart_filled held k slots full free.1 a.1,
+  apart_filled held k slots there own.1 a.1,
 )
 
--- the slab with an atom more, in a slot that had none
-pub record IsFilled (old new : Held) (k : ℕ) (a : Atom ℕ) : Type 0 where
-  pub none : atom_in old k ≡ None
-  pub changed : atom_in new k ≡ Some a
+-- ---- free slots
+
+all_front : {X : Type 0} (P : X → Type 0) (xs : List X) (x : X) → AllByRecursion P (xs ++ x ∷ []) → AllByRecursion P xs × P x
+all_front P [] x h = (tt, h.0)
+all_front P (y ∷ ys) x h = (let rest = all_front P ys x h.1 in ((h.0, rest.0), rest.1))
+
+all_both : {X : Type 0} (P Q R : X → Type 0) → ((x : X) → P x → Q x → R x) → (xs : List X) → AllByRecursion P xs → AllByRecursion Q xs → AllByRecursion R xs
+all_both P Q R f [] p q = tt
+all_both P Q R f (x ∷ xs) p q = (f x p.0 q.0, all_both P Q R f xs p.1 q.1)
+
+once_front : (free : List ℕ) (k : ℕ) → AreOnce (free ++ k ∷ []) → AreOnce free × AllByRecursion (λ s. s ≢ k) free
+once_front [] k h = (tt, tt)
+once_front (f ∷ free) k h =
+    let rest = once_front free k h.1 in
+    let own = all_front (λ s. s ≢ f) free k h.0 in
+    ((own.0, rest.0), ((λ same. own.1 (sym same)), rest.1))
+
+once_push : (free : List ℕ) (k : ℕ) → AreOnce free → AllByRecursion (λ s. s ≢ k) free → AreOnce (free ++ k ∷ [])
+once_push [] k h own = (tt, tt)
+once_push (f ∷ free) k h own = (all-push (λ s. s ≢ f) free k h.0 (λ same. own.0 (sym same)), once_push free k h.1 own.1)
+
+pub all_there : (held : Held) (free slots : List ℕ) → IsTable held free slots → AllByRecursion (λ slot. slot < length held) free
+all_there held free slots t = all_map (λ slot. IsOwnSlot held slot slots) (λ slot. slot < length held) free (λ slot o. o.there) t.unused
+
+-- ---- an atom more, in a slot that no label had
+
+-- the atoms once it is put there, with the slots that are still free
+pub record IsFilled (old new : Held) (free left slots : List ℕ) (k : ℕ) (a : Atom ℕ) : Type 0 where
+  pub there : atom_in new k ≡ Some a
   pub others : (other : ℕ) → other ≢ k → atom_in new other ≡ atom_in old other
-  pub counted : count_by is_some new ≡ count_by is_some old + 1
-  pub free : k < no_slot
+  pub more : length old ≤ length new
+  pub counted : length new + length free ≡ length old + length left + 1
+  pub fits : length new ≤ no_slot
+  pub own : AllByRecursion (λ s. s ≢ k) slots
+  pub unused : AllByRecursion (λ slot. IsOwnSlot old slot slots) left
+  pub differ : AllByRecursion (λ s. s ≢ k) left
+  pub once : AreOnce left
 
--- an insert into a slab that has room
-pub filled_by : (old room new : Slab (Atom ℕ)) (k key : ℕ) (x a : Atom ℕ) → room.slots ≡ old.slots → k ≡ room.vacant_key → key ≡ room.vacant_key → k < no_slot → x ≡ a → get room key ≡ None → Updates room new key (Some x) → slab_len new ≡ slab_len room + 1 → IsFilled old.slots new.slots k a
-filled_by old room new k key x a same at is free copied none u len =
-    let e : key ≡ k = is ∙ sym at in
-    record {
-      none = ap (λ xs. slice_index_or xs k None) (sym same) ∙ ap (get room) (sym e) ∙ none;
-      changed = ap (get new) (sym e) ∙ u.changed ∙ ap Some copied;
-      others = λ other d. u.others other (λ z. d (z ∙ e)) ∙ ap (λ xs. slice_index_or xs other None) same;
-      counted = len ∙ ap (λ (xs : Held). count_by is_some xs + 1) same;
-      free = free;
-    }
+set_at : (xs : Held) (k : ℕ) (a : Atom ℕ) → k < length xs → slice_get (slice_set xs k a) k ≡ Some a
+set_at xs k a lt = slice_get_read (slice_set xs k a) (length (slice_set xs k a)) k a refl (omega (arith, lt, length-set xs k a)) (sym (get_or-set_same xs k a a lt))
 
--- and without the atom of a slot
+set_elsewhere : (xs : Held) (k other : ℕ) (a : Atom ℕ) → other ≢ k → slice_get (slice_set xs k a) other ≡ slice_get xs other
+set_elsewhere [] k other a d = refl
+set_elsewhere (x ∷ xs) zero zero a d = absurd (d refl)
+set_elsewhere (x ∷ xs) zero (suc other) a d = refl
+set_elsewhere (x ∷ xs) (suc k) zero a d = refl
+set_elsewhere (x ∷ xs) (suc k) (suc other) a d = set_elsewhere xs k other a (λ e. d (ap suc e))
+
+pushed_last : (xs : Held) (a : Atom ℕ) → slice_get (xs ++ a ∷ []) (length xs) ≡ Some a
+pushed_last [] a = refl
+pushed_last (x ∷ xs) a = pushed_last xs a
+
+pushed_elsewhere : (xs : Held) (other : ℕ) (a : Atom ℕ) → other ≢ length xs → slice_get (xs ++ a ∷ []) other ≡ slice_get xs other
+pushed_elsewhere [] zero a d = absurd (d refl)
+pushed_elsewhere [] (suc other) a d = refl
+pushed_elsewhere (x ∷ xs) zero a d = refl
+pushed_elsewhere (x ∷ xs) (suc other) a d = pushed_elsewhere xs other a (λ e. d (ap suc e))
+
+module _ (old : Held) (slots : List ℕ) (a : Atom ℕ) where
+  filled_again : (left : List ℕ) (k : ℕ) → IsTable old (left ++ k ∷ []) slots → IsFilled old (slice_set old k a) (left ++ k ∷ []) left slots k a
+  filled_again left k t =
+      let unused = all_front (λ slot. IsOwnSlot old slot slots) left k t.unused in
+      let once = once_front left k t.once in
+      let size = length-set old k a in
+      record {
+        there = set_at old k a unused.1.there;
+        others = λ other d. set_elsewhere old k other a d;
+        more = omega (arith, size);
+        counted = omega (arith, size, length-append left (k ∷ []));
+        fits = omega (arith, size, t.fits);
+        own = unused.1.own;
+        unused = unused.0;
+        differ = once.1;
+        once = once.0;
+      }
+
+  filled_more : length slots < no_slot → IsTable old [] slots → IsFilled old (old ++ a ∷ []) [] [] slots (length old) a
+  filled_more room t =
+      let size = length-append old (a ∷ []) in
+      let all : length old < no_slot = omega (arith, room, t.counted, at_most 1 (held_in old slots), length-map slots (atom_in old)) in
+      record {
+        there = pushed_last old a;
+        others = λ other d. pushed_elsewhere old other a d;
+        more = omega (arith, size);
+        counted = omega (arith, size);
+        fits = omega (arith, size, all);
+        own = past_all old slots all t.apart;
+        unused = tt;
+        differ = tt;
+        once = tt;
+      }
+
+  none_of : (free : List ℕ) → length free ≡ 0 → free ≡ []
+  none_of [] e = refl
+  none_of (f ∷ free) e = absurd (omega (arith, e))
+
+  -- whether a slot was free or not
+  pub filled_by : (new : Held) (free left : List ℕ) (k : ℕ) → length slots < no_slot → IsTable old free slots
+      → (1 ≤ length free → (free ≡ left ++ k ∷ []) × (new ≡ slice_set old k a))
+      → (length free ≡ 0 → (left ≡ []) × (k ≡ length old) × (new ≡ old ++ a ∷ []))
+      → IsFilled old new free left slots k a
+  filled_by new free left k room t again more = elim (cases_eq (length free) 0) [
+    | inl e ↦ let w = more e in let none = none_of free e in
+        subst (λ n. IsFilled old n free left slots k a) (sym w.2) (subst (λ i. IsFilled old (old ++ a ∷ []) free left slots i a) (sym w.1)
+        (subst (λ l. IsFilled old (old ++ a ∷ []) free l slots (length old) a) (sym w.0) (subst (λ f. IsFilled old (old ++ a ∷ []) f [] slots (length old) a) (sym none) (filled_more room (subst (λ f. IsTable old f slots) none t)))))
+    | inr d ↦ let w = again (omega arith) in
+        subst (λ n. IsFilled old n free left slots k a) (sym w.1) (subst (λ f. IsFilled old (slice_set old k a) f left slots k a) (sym w.0) (filled_again left k (subst (λ f. IsTable old f slots) w.0 t)))
+  ]
+
+-- and without the atom of a slot, which is free then
 pub record IsEmptied (old new : Held) (k : ℕ) (a : Atom ℕ) : Type 0 where
   pub there : atom_in old k ≡ Some a
   pub others : (other : ℕ) → other ≢ k → atom_in new other ≡ atom_in old other
-  pub counted : count_by is_some new + 1 ≡ count_by is_some old
+  pub same : length new ≡ length old
 
-module _ (old new : Held) (slots : List ℕ) (t : IsTable old slots) where
-  module _ (k : ℕ) (a : Atom ℕ) (f : IsFilled old new k a) where
-    free : AllByRecursion (λ s. s ≢ k) slots
-    free = unused old k slots f.none f.free t.apart
+pub emptied_by : (old : Held) (k : ℕ) (a empty : Atom ℕ) → k < length old → a ≡ get_or old k a → IsEmptied old (slice_set old k empty) k a
+emptied_by old k a empty lt read = record {
+  there = slice_get_read old (length old) k a refl lt read;
+  others = λ other d. set_elsewhere old k other empty d;
+  same = length-set old k empty;
+}
 
+module _ (old new : Held) (free slots : List ℕ) (t : IsTable old free slots) where
+  module _ (left : List ℕ) (k : ℕ) (a : Atom ℕ) (f : IsFilled old new free left slots k a) where
     same : held_in new slots ≡ held_in old slots
-    same = held_same old new k f.others slots free
+    same = held_same old new k f.others slots f.own
 
     filled_held : held_in new (slots ++ k ∷ []) ≡ held_in old slots ++ Some a ∷ []
-    filled_held = map_push (atom_in new) slots k ∙ ap₂ (λ (xs : Labelled) x. xs ++ x ∷ []) same f.changed
+    filled_held = map_push (atom_in new) slots k ∙ ap₂ (λ (xs : Labelled) x. xs ++ x ∷ []) same f.there
 
     pub filled : table_of new (slots ++ k ∷ []) ≡ with_atom a (table_of old slots)
-    filled = with_some new slots k a f.changed ∙ ap (λ xs. with_atom a (given (entries_from 1 xs) (length slots + 1))) same
+    filled = with_some new slots k a f.there ∙ ap (λ xs. with_atom a (given (entries_from 1 xs) (length slots + 1))) same
 
-    pub filled_table : length slots + 1 ≤ 4294967295 → IsTable new (slots ++ k ∷ [])
+    pub filled_table : length slots + 1 ≤ 4294967295 → IsTable new left (slots ++ k ∷ [])
     filled_table h = record {
-      counted = (let more = ap (λ (s : GivenAtoms). length s.entries) filled in let was : count_by is_some old ≡ length (entries_from 1 (held_in old slots)) = t.counted in omega (arith, f.counted, length-append (entries_from 1 (held_in old slots)) ((length slots + 1, a) ∷ [])));
+      counted = (let more = ap (λ (s : GivenAtoms). length s.entries) filled in omega (arith, t.counted, more, f.counted, length-append (entries_from 1 (held_in old slots)) ((length slots + 1, a) ∷ [])));
       within = omega (arith, length-append slots (k ∷ []));
-      none = f.others no_slot (λ e. omega (arith, f.free)) ∙ t.none;
-      apart = apart_filled new k slots (subst IsSome (sym f.changed) refl) free (apart_same old new k f.others slots free t.apart);
+      fits = f.fits;
+      apart = apart_filled new k slots (slice_get_within new k a f.there) f.own (apart_more old new f.more slots t.apart);
+      unused = all_both _ _ (λ slot. IsOwnSlot new slot (slots ++ k ∷ []))
+          (λ slot o d. record { there = still_there old new f.more slot o.there; own = all-push (λ s. s ≢ slot) slots k o.own (λ same. d (sym same)) })
+          left f.unused f.differ;
+      once = f.once;
     }
 
     pub filled_counts : (ns : List ℕ) (i n : ℕ) → AreCounts (held_in old slots) ns → length slots + 1 < 64 * length ns → i ≡ (length slots + 1) / 64 → n ≡ get_or ns i n → AreCounts (held_in new (slots ++ k ∷ [])) (slice_set ns i (n + 1))
@@ -416,36 +524,54 @@ module _ (old new : Held) (slots : List ℕ) (t : IsTable old slots) where
         (rw (read ∙ get_or_default_zero ns i n (omega arith)) (counts_filled (held_in old slots) ns a i h (omega arith) (omega arith)))
 
   module _ (k i : ℕ) (a : Atom ℕ) (e : IsEmptied old new k a) (slot : slice_get slots i ≡ Some k) where
-    still_none : atom_in new no_slot ≡ None
-    still_none = e.others no_slot (λ same. let z : None ≡ Some a = sym t.none ∙ ap (atom_in old) same ∙ e.there in cc) ∙ t.none
+    no_less : length old ≤ length new
+    no_less = omega (arith, e.same)
 
-    empties : (i : ℕ) (ss : List ℕ) → slice_get ss i ≡ Some k → AreApart old ss → (held_in new (slice_set ss i no_slot) ≡ slice_set (held_in old ss) i None) × AreApart new (slice_set ss i no_slot)
+    still_none : atom_in new no_slot ≡ None
+    still_none = none_past new (omega (arith, e.same, t.fits))
+
+    some_slot : k < no_slot
+    some_slot = let lt : k < length old = slice_get_within old k a e.there in omega (arith, lt, t.fits)
+
+    -- the slots once that label has none: what they hold, and that each is one label's own
+    record AreEmptied (j : ℕ) (ss : List ℕ) : Type 0 where
+      pub held : held_in new (slice_set ss j no_slot) ≡ slice_set (held_in old ss) j None
+      pub apart : AreApart new (slice_set ss j no_slot)
+      pub own : AllByRecursion (λ s. s ≢ k) (slice_set ss j no_slot)
+
+    empties : (i : ℕ) (ss : List ℕ) → slice_get ss i ≡ Some k → AreApart old ss → AreEmptied i ss
     empties i [] at h = absurd (cc)
     empties zero (s ∷ ss) at h =
         let same : s ≡ k = cc in
         let rest : AllByRecursion (λ other. other ≢ k) ss = elim h.0 [
-          | inl none ↦ absurd (let z : None ≡ Some a = sym t.none ∙ ap (atom_in old) (sym none ∙ same) ∙ e.there in cc)
+          | inl none ↦ absurd (omega (arith, none, same, some_slot))
           | inr o ↦ subst (λ z. AllByRecursion (λ other. other ≢ z) ss) same o.own
         ] in
-        (ap₂ (λ x (xs : Labelled). x ∷ xs) still_none (held_same old new k e.others ss rest), (inl refl, apart_same old new k e.others ss rest h.1))
+        record {
+          held = ap₂ (λ x (xs : Labelled). x ∷ xs) still_none (held_same old new k e.others ss rest);
+          apart = (inl refl, apart_more old new no_less ss h.1);
+          own = ((λ same. omega (arith, same, some_slot)), rest);
+        }
     empties (suc i) (s ∷ ss) at h =
         let rest = empties i ss at h.1 in
         let differs : s ≢ k = elim h.0 [
-          | inl none ↦ λ same. let z : None ≡ Some a = sym t.none ∙ ap (atom_in old) (sym none ∙ same) ∙ e.there in absurd (cc)
+          | inl none ↦ λ same. omega (arith, none, same, some_slot)
           | inr o ↦ λ same. all_at (λ other. other ≢ s) ss i k at o.own (sym same)
-        ] in (
-          ap₂ (λ x (xs : Labelled). x ∷ xs) (e.others s differs) rest.0,
-          (
-            elim (own_same old new k e.others s ss differs h.0) [
+        ] in
+        record {
+          held = ap₂ (λ x (xs : Labelled). x ∷ xs) (e.others s differs) rest.held;
+          apart = (
+            elim h.0 [
               | inl none ↦ inl none
-              | inr o ↦ inr (record { full = o.full; own = all_set (λ other. other ≢ s) ss i no_slot (λ same. not_none (atom_in new s) (ap (atom_in new) (sym same) ∙ still_none) o.full) o.own })
+              | inr o ↦ inr (record { there = still_there old new no_less s o.there; own = all_set (λ other. other ≢ s) ss i no_slot (not_there old s t.fits o.there) o.own })
             ],
-            rest.1,
-          ),
-        )
+            rest.apart,
+          );
+          own = (differs, rest.own);
+        }
 
-    emptied_held : held_in new (slice_set slots i no_slot) ≡ slice_set (held_in old slots) i None
-    emptied_held = (empties i slots slot t.apart).0
+    all_emptied : AreEmptied i slots
+    all_emptied = empties i slots slot t.apart
 
     inside : i < length slots
     inside = slice_get_within slots i k slot
@@ -455,17 +581,26 @@ module _ (old new : Held) (slots : List ℕ) (t : IsTable old slots) where
 
     -- the label of an emptied slot leaves the entries
     pub emptied : (l : ℕ) → IsSlotOf l i → table_of new (slice_set slots i no_slot) ≡ without_label l (table_of old slots)
-    emptied l at = both _ _ _ _ (ap (entries_from 1) emptied_held ∙ dropped_at 1 i l (held_in old slots) (let u : i + 1 ≡ l = at.own label_is in omega arith)) (ap (λ n. n + 1) (length-set slots i no_slot))
+    emptied l at = both _ _ _ _ (ap (entries_from 1) all_emptied.held ∙ dropped_at 1 i l (held_in old slots) (let u : i + 1 ≡ l = at.own label_is in omega arith)) (ap (λ n. n + 1) (length-set slots i no_slot))
       where
         label_is : 1 ≤ l
         label_is = elim (cases_eq l 0) [ inl z ↦ absurd (let u : 4294967295 ≤ i = at.none z in omega (arith, inside, t.within)) | inr d ↦ omega arith ]
 
-    pub emptied_table : IsTable new (slice_set slots i no_slot)
+    -- so not all slots were free
+    pub some_used : length free < length old
+    some_used = omega (arith, t.counted, fewer 1 i (held_in old slots) a there)
+
+    pub emptied_table : IsTable new (free ++ k ∷ []) (slice_set slots i no_slot)
     emptied_table = record {
-      counted = omega (arith, e.counted, t.counted, ap (λ xs. length (entries_from 1 xs)) emptied_held, fewer 1 i (held_in old slots) a there);
+      counted = omega (arith, e.same, t.counted, ap (λ xs. length (entries_from 1 xs)) all_emptied.held, fewer 1 i (held_in old slots) a there, length-append free (k ∷ []));
       within = omega (arith, t.within, length-set slots i no_slot);
-      none = still_none;
-      apart = (empties i slots slot t.apart).1;
+      fits = omega (arith, e.same, t.fits);
+      apart = all_emptied.apart;
+      unused = all-push (λ s. IsOwnSlot new s (slice_set slots i no_slot)) free k
+          (all_map (λ s. IsOwnSlot old s slots) (λ s. IsOwnSlot new s (slice_set slots i no_slot)) free
+          (λ s o. record { there = still_there old new no_less s o.there; own = all_set (λ other. other ≢ s) slots i no_slot (not_there old s t.fits o.there) o.own }) t.unused)
+          (record { there = still_there old new no_less k (slice_get_within old k a e.there); own = all_emptied.own });
+      once = once_push free k t.once (all_map (λ s. IsOwnSlot old s slots) (λ s. s ≢ k) free (λ s o same. all_at (λ other. other ≢ s) slots i k slot o.own (sym same)) t.unused);
     }
 
     module _ (ns : List ℕ) (n : ℕ) (h : AreCounts (held_in old slots) ns) (read : n ≡ get_or ns ((i + 1) / 64) n) where
@@ -476,25 +611,28 @@ module _ (old new : Held) (slots : List ℕ) (t : IsTable old slots) where
       count = read ∙ get_or_default_zero ns ((i + 1) / 64) n (is_counted (held_in old slots) ns i ((i + 1) / 64) h within refl)
 
       pub emptied_counts : AreCounts (held_in new (slice_set slots i no_slot)) (slice_set ns ((i + 1) / 64) (n - 1))
-      emptied_counts = subst (λ xs. AreCounts xs (slice_set ns ((i + 1) / 64) (n - 1))) (sym emptied_held)
+      emptied_counts = subst (λ xs. AreCounts xs (slice_set ns ((i + 1) / 64) (n - 1))) (sym all_emptied.held)
           (rw count (counts_emptied (held_in old slots) ns a (i + 1) i ((i + 1) / 64) h there refl refl within))
 
       pub emptied_one : 1 ≤ n
       emptied_one = omega (arith, count, counts_one (held_in old slots) ns a i ((i + 1) / 64) h there within refl)
 
-module _ (held : Held) (slots : List ℕ) (t : IsTable held slots) where
+module _ (held : Held) (free slots : List ℕ) (t : IsTable held free slots) where
   skipped_held : held_in held (slots ++ no_slot ∷ []) ≡ held_in held slots ++ None ∷ []
-  skipped_held = map_push (atom_in held) slots no_slot ∙ ap (λ x. held_in held slots ++ x ∷ []) t.none
+  skipped_held = map_push (atom_in held) slots no_slot ∙ ap (λ x. held_in held slots ++ x ∷ []) (none_past held t.fits)
 
   pub skipped : table_of held (slots ++ no_slot ∷ []) ≡ without_atom (table_of held slots)
-  skipped = with_none held slots no_slot t.none
+  skipped = with_none held slots no_slot (none_past held t.fits)
 
-  pub skipped_table : length slots + 1 ≤ 4294967295 → IsTable held (slots ++ no_slot ∷ [])
+  pub skipped_table : length slots + 1 ≤ 4294967295 → IsTable held free (slots ++ no_slot ∷ [])
   skipped_table h = record {
-    counted = t.counted ∙ sym (ap (λ (s : GivenAtoms). length s.entries) skipped);
+    counted = ap (λ (s : GivenAtoms). length s.entries + length free) skipped ∙ t.counted;
     within = omega (arith, length-append slots (no_slot ∷ []));
-    none = t.none;
-    apart = apart_skipped held slots t.none t.apart;
+    fits = t.fits;
+    apart = apart_skipped held slots t.fits t.apart;
+    unused = all_map (λ s. IsOwnSlot held s slots) (λ s. IsOwnSlot held s (slots ++ no_slot ∷ [])) free
+        (λ s o. record { there = o.there; own = all-push (λ other. other ≢ s) slots no_slot o.own (not_there held s t.fits o.there) }) t.unused;
+    once = t.once;
   }
 
   pub skipped_counts : (ns : List ℕ) → AreCounts (held_in held slots) ns → length slots + 1 < 64 * length ns → AreCounts (held_in held (slots ++ no_slot ∷ [])) ns

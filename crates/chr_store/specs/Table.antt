@@ -1,17 +1,17 @@
--- Atoms in the slots of a slab, by label.
-use Rattle.std.specs.Prelude.{◌≡◌, ◌≢◌, ◌⊎◌, ⊤, ℕ, ◌+◌, ◌≤◌, List, [], ◌∷◌, length, map, count_by, slice_index_or, Option, Some, None, is_some, IsSome}
+-- Atoms in slots, by label.
+use Rattle.std.specs.Prelude.{◌≡◌, ◌≢◌, ◌⊎◌, ⊤, ℕ, ◌+◌, ◌<◌, ◌≤◌, List, [], ◌∷◌, length, map, slice_get, Option, Some, None}
 use Rattle.std.specs.Borrow.{Bor}
 use Rattle.std.specs.List.{AllByRecursion}
 use Rattle.chr_value.specs.Atoms.{Atom}
 use Rattle.chr_value.specs.Stores.{Store, greatest_label}
 
--- what a slab has, slot by slot
+-- the atoms, slot by slot
 abbrev pub Held : Type 0
-Held = List (Option (Atom ℕ))
+Held = List (Atom ℕ)
 
--- the atom in a slot, or none
+-- the atom in a slot, or none where there is no such slot
 abbrev pub atom_in : Held → ℕ → Option (Atom ℕ)
-atom_in held slot = slice_index_or held slot None
+atom_in held slot = slice_get held slot
 
 -- the slot of a label that has no atom
 abbrev pub no_slot : ℕ
@@ -32,9 +32,9 @@ pub record IsSlotOf (label i : ℕ) : Type 0 where
   pub own : 1 ≤ label → i + 1 ≡ label
   pub none : label ≡ 0 → greatest_label ≤ i
 
--- a slot of one label alone, with its atom
+-- a slot that there is, and none of these others
 pub record IsOwnSlot (held : Held) (slot : ℕ) (others : List ℕ) : Type 0 where
-  pub full : IsSome (atom_in held slot)
+  pub there : slot < length held
   pub own : AllByRecursion (λ other. other ≢ slot) others
 
 -- each label has a slot of its own, or none
@@ -43,12 +43,19 @@ AreApart held [] = ⊤
 AreApart held (slot ∷ slots) =
     ((slot ≡ no_slot) ⊎ IsOwnSlot held slot slots) × AreApart held slots
 
--- the slab has the atoms of the labels and no more, and the labels keep within the greatest one
-pub record IsTable (held : Held) (slots : List ℕ) : Type 0 where
-  pub counted : count_by is_some held ≡ length (entries_from 1 (held_in held slots))
+-- none of these slots is there twice
+abbrev pub AreOnce : List ℕ → Type 0
+AreOnce [] = ⊤
+AreOnce (slot ∷ slots) = AllByRecursion (λ other. other ≢ slot) slots × AreOnce slots
+
+-- each slot but those of the labels is a free one, and the labels keep within the greatest one
+pub record IsTable (held : Held) (free slots : List ℕ) : Type 0 where
+  pub counted : length (entries_from 1 (held_in held slots)) + length free ≡ length held
   pub within : length slots ≤ greatest_label
-  pub none : atom_in held no_slot ≡ None
+  pub fits : length held ≤ no_slot
   pub apart : AreApart held slots
+  pub unused : AllByRecursion (λ slot. IsOwnSlot held slot slots) free
+  pub once : AreOnce free
 
 -- the label and the atom that an item shows
 abbrev pub shown : ℕ × Bor (Atom ℕ) → ℕ × Atom ℕ

@@ -1,17 +1,17 @@
 //! Atoms under labels that are given in order.
-ghost use Rattle.std.specs.Prelude.{◌≡◌, ◌+◌, ◌*◌, ◌<◌, ◌≤◌, ◌++◌, ◌∷◌, [], ℕ, length, slice_index, vec_len, vec_capacity, IfOk, OnOk, OnErr};
+ghost use Rattle.std.specs.Prelude.{◌≡◌, ◌+◌, ◌*◌, ◌<◌, ◌≤◌, ◌++◌, ◌∷◌, [], ℕ, length, slice_index, slice_set, vec_len, vec_capacity, IfOk, OnOk, OnErr};
 ghost use Rattle.std.specs.Option.{option_copied};
+ghost use Rattle.std.specs.List.{AllByRecursion};
 ghost use Rattle.std.specs.Iterator.{item_count};
 ghost use Rattle.std.specs.Map.Iter.{TakesFirst};
 ghost use Rattle.chr_value.specs.Stores.{atom_at, drop_label, greatest_label};
-ghost use Rattle.chr_store.specs.Table.{Held, IsSlotOf, no_slot, held_in, entries_from, shown};
+ghost use Rattle.chr_store.specs.Table.{Held, IsSlotOf, no_slot, atom_in, held_in, entries_from, shown};
 ghost use Rattle.chr_store.specs.Blocks.{AreCounts, AreEmptyAtNone};
-ghost use Rattle.slab.specs.Slab.{HasRoomFor};
 
-use chr_value::{Atom, Label};
-use slab::Slab;
+use chr_value::{Atom, Label, Name};
 use std::alloc::{AllocError, Allocator};
 use std::marker::Model;
+use std::mem;
 
 /// The slot of a label that has no atom.
 const NO_SLOT: u32 = u32::MAX;
@@ -19,13 +19,15 @@ const NO_SLOT: u32 = u32::MAX;
 /// How many labels, one after another, are counted together.
 const BLOCK: usize = 64;
 
-/// Atoms under labels, which are given from 1 on, each once. They lie in one slab, where the slot of an atom that is taken
+/// Atoms under labels, which are given from 1 on, each once. They lie in one vector, where the slot of an atom that is taken
 /// out is given again; 4 bytes for its label stay. Contracts see the list of the labels with their atoms, which rises, and
 /// the label that comes next.
 #[derive(Drop)]
 pub struct Atoms<A: Allocator> {
-    /// The atoms, each in a slot that the slab picks.
-    held: Slab<Atom<A>, A>,
+    /// The atoms, each in a slot of its own. A free slot has an atom without arguments.
+    held: Vec<Atom<A>, A>,
+    /// The slots that are free. It has room for all slots, so that taking an atom out takes no memory.
+    free: Vec<u32, A>,
     /// The slot of each label that was given, from 1 on, or [`NO_SLOT`].
     slots: Vec<u32, A>,
     /// How many atoms each block of labels has.
@@ -33,7 +35,7 @@ pub struct Atoms<A: Allocator> {
 }
 
 impl<A: Allocator> Model for Atoms<A> {
-    ghost use Rattle.std.specs.Prelude.{◌+◌, length};
+    ghost use Rattle.std.specs.Prelude.{◌+◌, ◌≤◌, length, vec_capacity};
     ghost use Rattle.chr_value.specs.Code.{value_codes};
     ghost use Rattle.chr_store.specs.Labels.{GivenAtoms};
     ghost use Rattle.chr_store.specs.Table.{entries_from, held_in, IsTable};
@@ -43,9 +45,9 @@ impl<A: Allocator> Model for Atoms<A> {
 
     ghost coded = { Prim.hlevel value_codes };
 
-    ghost view = { λ a. record { entries = entries_from 1 (held_in a.held.slots a.slots.items); next = length a.slots.items + 1 } };
+    ghost view = { λ a. record { entries = entries_from 1 (held_in a.held.items a.slots.items); next = length a.slots.items + 1 } };
 
-    ghost invariant = { λ a. IsTable a.held.slots a.slots.items × AreCounts (held_in a.held.slots a.slots.items) a.counts.items };
+    ghost invariant = { λ a. IsTable a.held.items a.free.items a.slots.items × (length a.held.items ≤ vec_capacity a.free) × AreCounts (held_in a.held.items a.slots.items) a.counts.items };
 }
 
 /// The index of a label's slot. That of 0, which is no label, is above all others.
@@ -56,20 +58,49 @@ fn index_of(label: Label) -> usize
     (label as usize).wrapping_sub(1)
 }
 
-/// Makes room for an atom, and tells the slot that it will have. An `Err` is E01.
-fn reserve_slot<A: Allocator>(held: &mut Slab<Atom<A>, A>) -> Result<u32, AllocError>
-    ensures same { held.new.slots ≡ held.old.slots }
-    ensures room { OnOk result (HasRoomFor held.new 1) }
-    ensures next { IfOk result (λ slot. slot ≡ held.new.vacant_key) }
-    ensures fits { IfOk result (λ slot. slot < no_slot) }
+/// The atom in a slot, if there is such a slot.
+#[inline(always)]
+fn atom_of_slot<A: Allocator>(held: &[Atom<A>], slot: u32) -> Option<&Atom<A>>
+    ensures { option_copied result ≡ atom_in held.now slot }
 {
-    held.reserve(1)?;
-    let slot = held.vacant_key();
-    // The slab never has more slots than there are labels, but none of its contracts says so.
-    if slot >= NO_SLOT as usize {
-        return Err(AllocError);
+    held.get(slot as usize)
+}
+
+/// Makes room for an atom, in one slot more where none is free. An `Err` is E01.
+fn reserve_slot<A: Allocator>(
+    held: &mut Vec<Atom<A>, A>,
+    free: &mut Vec<u32, A>,
+) -> Result<(), AllocError>
+    requires all { length held.old.items ≤ vec_capacity free.old }
+    ensures held { held.new.items ≡ held.old.items }
+    ensures free { free.new.items ≡ free.old.items }
+    ensures all { length held.old.items ≤ vec_capacity free.new }
+    ensures place { OnOk result (length free.old.items ≡ 0 → vec_len held.new < vec_capacity held.new) }
+    ensures more { OnOk result (length free.old.items ≡ 0 → length held.old.items < vec_capacity free.new) }
+{
+    if !free.is_empty() {
+        return Ok(());
     }
-    Ok(slot as u32)
+    free.reserve(held.len() + 1)?;
+    held.reserve(1)
+}
+
+/// Puts an atom into a free slot, or into one slot more where none is free, and tells which. There is room for it.
+fn fill_slot<A: Allocator>(held: &mut Vec<Atom<A>, A>, free: &mut Vec<u32, A>, atom: Atom<A>) -> u32
+    requires there { AllByRecursion (λ slot. slot < length held.old.items) free.old.items }
+    requires fits { length held.old.items ≤ no_slot }
+    requires place { length free.old.items ≡ 0 → vec_len held.old < vec_capacity held.old }
+    ensures again { 1 ≤ length free.old.items → (free.old.items ≡ free.new.items ++ result ∷ []) × (held.new.items ≡ slice_set held.old.items result atom) }
+    ensures more { length free.old.items ≡ 0 → (free.new.items ≡ []) × (result ≡ length held.old.items) × (held.new.items ≡ held.old.items ++ atom ∷ []) }
+    ensures capacity { vec_capacity free.new ≡ vec_capacity free.old }
+{
+    let Some(slot) = free.pop() else {
+        let slot = held.len() as u32;
+        held.push_reserved(atom);
+        return slot;
+    };
+    held[slot as usize] = atom;
+    slot
 }
 
 /// Makes room for one label more, and a count for its block. An `Err` is E01.
@@ -125,7 +156,8 @@ impl<A: Allocator + Copy> Atoms<A> {
         ensures { result ≡ record { entries = []; next = 1 } }
     {
         Atoms {
-            held: Slab::new(alloc),
+            held: Vec::new(alloc),
+            free: Vec::new(alloc),
             slots: Vec::new(alloc),
             counts: Vec::new(alloc),
         }
@@ -135,7 +167,7 @@ impl<A: Allocator + Copy> Atoms<A> {
     pub fn len(&self) -> usize
         ensures { result ≡ length self.now.entries }
     {
-        self.held.len()
+        self.held.len() - self.free.len()
     }
 
     /// The label that [`push_copy`](Atoms::push_copy) gives next.
@@ -152,9 +184,10 @@ impl<A: Allocator + Copy> Atoms<A> {
         ensures unchanged { OnErr result (self.new ≡ self.old) }
     {
         make_room(&mut self.slots, &mut self.counts)?;
-        let slot = reserve_slot(&mut self.held)?;
+        reserve_slot(&mut self.held, &mut self.free)?;
         let copied = atom.copy(*self.slots.allocator())?;
-        self.held.insert_reserved(copied);
+        // Where no slot is free, each has the atom of a label, so the number of the next is below NO_SLOT.
+        let slot = fill_slot(&mut self.held, &mut self.free, copied);
         self.counts[(self.slots.len() + 1) / BLOCK] += 1;
         self.slots.push_reserved(slot);
         Ok(())
@@ -179,7 +212,7 @@ impl<A: Allocator + Copy> Atoms<A> {
         let Some(slot) = self.slots.get(index_of(label)) else {
             return None;
         };
-        self.held.get(*slot as usize)
+        atom_of_slot(&self.held, *slot)
     }
 
     /// Takes the atom under a label out. Takes no memory.
@@ -191,9 +224,13 @@ impl<A: Allocator + Copy> Atoms<A> {
         if self.slots.len() <= index {
             return None;
         }
-        let Some(atom) = self.held.try_remove(self.slots[index] as usize) else {
+        let slot = self.slots[index];
+        if slot == NO_SLOT {
             return None;
-        };
+        }
+        let empty = Atom::new(*self.slots.allocator(), Name { number: 0 });
+        let atom = mem::replace(&mut self.held[slot as usize], empty);
+        self.free.push_reserved(slot);
         self.slots[index] = NO_SLOT;
         self.counts[(index + 1) / BLOCK] -= 1;
         Some(atom)
@@ -218,12 +255,13 @@ impl<A: Allocator + Copy> Atoms<A> {
         ensures { IfOk result (λ made. made ≡ self.now) }
     {
         let mut made = Atoms {
-            held: Slab::with_capacity(alloc, self.held.len())?,
+            held: Vec::with_capacity(alloc, self.len())?,
+            free: Vec::with_capacity(alloc, self.len())?,
             slots: Vec::with_capacity(alloc, self.slots.len())?,
             counts: Vec::with_capacity(alloc, self.counts.len())?,
         };
         for slot in &self.slots {
-            match self.held.get(*slot as usize) {
+            match atom_of_slot(&self.held, *slot) {
                 None => made.skip()?,
                 Some(atom) => made.push_copy(atom)?,
             }
@@ -235,7 +273,7 @@ impl<A: Allocator + Copy> Atoms<A> {
 /// Constraints with their labels, which rise. Contracts see the list of those that are left.
 #[derive(Drop)]
 pub struct Constraints<'s, A: Allocator> {
-    held: &'s Slab<Atom<A>, A>,
+    held: &'s [Atom<A>],
     /// The slots of the labels that are left.
     slots: &'s [u32],
     /// How many atoms each block has, also of the labels that have been passed.
@@ -254,9 +292,9 @@ impl<'s, A: Allocator> Model for Constraints<'s, A> {
 
     ghost coded = { Prim.hlevel value_codes };
 
-    ghost view = { λ c. entries_from c.label (held_in c.held.now.slots c.slots.now) };
+    ghost view = { λ c. entries_from c.label (held_in c.held.now c.slots.now) };
 
-    ghost invariant = { λ c. (c.label + length c.slots.now ≤ 4294967296) × AreEmptyAtNone c.label (held_in c.held.now.slots c.slots.now) c.counts.now };
+    ghost invariant = { λ c. (c.label + length c.slots.now ≤ 4294967296) × AreEmptyAtNone c.label (held_in c.held.now c.slots.now) c.counts.now };
 }
 
 impl<'s, A: Allocator> Iterator for Constraints<'s, A> {
@@ -272,7 +310,7 @@ impl<'s, A: Allocator> Iterator for Constraints<'s, A> {
             let (slots, next) = past_empty(others, self.counts, label + 1);
             self.slots = slots;
             self.label = next;
-            if let Some(atom) = self.held.get(*slot as usize) {
+            if let Some(atom) = atom_of_slot(self.held, *slot) {
                 return Some((label, atom));
             }
         }

@@ -3,7 +3,7 @@
 //! A [`Store`] is a map from labels to atoms. Labels are given from 1 on, each once, up to a limit, so
 //! two equal constraints have two labels and a removed label never comes back. [`next_at`](Store::next_at)
 //! finds the least label in a range whose atom has a predicate and, where one is asked for, a value at a place.
-//! A store keeps its atoms in one slab, and for each label the slot of its atom, so looking one up takes no search. The slot
+//! A store keeps its atoms in one vector, and for each label the slot of its atom, so looking one up takes no search. The slot
 //! of an atom that is removed is given again, and 4 bytes for its label stay. It counts the atoms of each 64 labels, so that
 //! [`iter`](Store::iter) passes over blocks whose atoms have gone.
 //! It also keeps the labels of each predicate in order, and, for each place that

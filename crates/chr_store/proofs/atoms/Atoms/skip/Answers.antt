@@ -12,9 +12,9 @@ invariant_of-self-2 g c =
     let room : length i.slots.items + 1 ≤ 4294967295 = (let e = ap (λ (s : GivenAtoms). s.next) c.self.view_is in let most = c.requires in omega arith) in
     let items = c.push_reserved.ensures.items ∙ ap (λ xs. xs ++ no_slot ∷ []) c.make_room.ensures.slots in
     let counts = c.make_room.new.counts.items in
-    (subst (IsTable i.held.slots) (sym items) (skipped_table i.held.slots i.slots.items t room), subst (λ xs. AreCounts (held_in i.held.slots xs) counts) (sym items) (skipped_counts i.held.slots i.slots.items t counts (c.make_room.ensures.counted i.held.slots c.self.invariant.1) c.in_ok-make_room.ensures.block))
+    (subst (IsTable i.held.items i.free.items) (sym items) (skipped_table i.held.items i.free.items i.slots.items t room), c.self.invariant.1, subst (λ xs. AreCounts (held_in i.held.items xs) counts) (sym items) (skipped_counts i.held.items i.free.items i.slots.items t counts (c.make_room.ensures.counted i.held.items c.self.invariant.2) c.in_ok-make_room.ensures.block))
 
 pub returns-clause-ok : goal.returns-clause-ok
 returns-clause-ok g c =
     let i = c.self.inside in
-    ap (table_of i.held.slots) (c.push_reserved.ensures.items ∙ ap (λ xs. xs ++ no_slot ∷ []) c.make_room.ensures.slots) ∙ skipped i.held.slots i.slots.items c.self.invariant.0 ∙ ap without_atom c.self.view_is
+    ap (table_of i.held.items) (c.push_reserved.ensures.items ∙ ap (λ xs. xs ++ no_slot ∷ []) c.make_room.ensures.slots) ∙ skipped i.held.items i.free.items i.slots.items c.self.invariant.0 ∙ ap without_atom c.self.view_is
