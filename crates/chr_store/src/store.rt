@@ -284,6 +284,7 @@ impl<A: Allocator + Copy> Store<A> {
     /// The labels whose atoms have the predicate and, where `key` is a place and a value, that value at that place: many
     /// calls of [`Matches::next_at`] take one look-up. None only where `key` has a place that has no index, or a compound
     /// value.
+    #[inline(always)]
     pub fn matches(&self, pred: Pred, key: Option<(u8, ValueRef<'_, A>)>) -> Option<Matches<'_>>
         ensures least { IfSome result (λ labels. (after below : ℕ) (found : Option ℕ) → IsLeastBetween labels after below found → IsLeastMatch self.now.entries (record { pred = pred; key = key_of key.entry; after = after; below = below }) found) }
         ensures own { key.entry ≡ None → IsSome result }
