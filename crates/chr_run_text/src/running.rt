@@ -131,7 +131,7 @@ fn run_on<A: Allocator + Copy, W: Watch>(
 
 /// What is shown of a run, with its end.
 fn run_out<A: Allocator + Copy>(alloc: A, ran: Ran<A>, show: Show) -> Result<RunOut<A>, RunFault>
-    ensures { IsShown show ran.entry.end ran.entry.book result }
+    ensures { IsShown show ran.end ran.book result }
 {
     let end = ran.end;
     match ran.into_shown(alloc, show) {
