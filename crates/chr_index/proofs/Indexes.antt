@@ -5,9 +5,9 @@ use Rattle.slab.specs.Slab.{Slab, get, Updates}
 use Rattle.chr_index.specs.declared.table.Key.{Key}
 use Rattle.chr_index.specs.declared.table.Link.{Link}
 use Rattle.chr_index.specs.declared.table.Link.TheVariants as links
-use Rattle.chr_index.specs.Probing.{Probed, link_in, same_key}
+use Rattle.chr_index.specs.Chains.{Chained, link_in, same_key}
 use Rattle.chr_index.specs.Indexed.{Indexed, labels_at, labels_of, IsIndex}
-use Rattle.chr_index.proofs.Probes.{same_key_true, same_key_refl, decided}
+use Rattle.chr_index.proofs.Chaining.{same_key_true, same_key_refl, decided}
 
 abbrev Buckets : Type 0
 Buckets = Slab (List ℕ)
@@ -24,7 +24,7 @@ labels_same old new links.Nowhere h = refl
 labels_same old new (links.Alone label) h = refl
 labels_same old new (links.Bucket n) h = ap (λ (o : Option (List ℕ)). unwrap_or o []) (h n refl)
 
-module _ (key : Key) (link : Link) (t u : Probed) (old new : Buckets) (r : IsRelinked key link (link_in t) (link_in u) old new) where
+module _ (key : Key) (link : Link) (t u : Chained) (old new : Buckets) (r : IsRelinked key link (link_in t) (link_in u) old new) where
   linked_own : (k : Key) → same_key key k ≡ true → link_in u k ≡ link
   linked_own k s = r.linked k ∙ ap (λ (b : Bool). if b then link else link_in t k) s
 
@@ -56,23 +56,23 @@ module _ (key : Key) (link : Link) (t u : Probed) (old new : Buckets) (r : IsRel
   }
 
 -- where the links are as before, and the buckets have what they had
-pub index_same : (t u : Probed) (old : Buckets) → ((k : Key) → link_in u k ≡ link_in t k) → IsIndex t old → IsIndex u old
+pub index_same : (t u : Chained) (old : Buckets) → ((k : Key) → link_in u k ≡ link_in t k) → IsIndex t old → IsIndex u old
 index_same t u old h i = record { there = λ k n b. i.there k n (sym (h k) ∙ b); own = λ k l n b d. i.own k l n (sym (h k) ∙ b) (sym (h l) ∙ d) }
 
 -- ---- what is relinked
 
 -- a key whose labels stand in its entry, or nowhere
-relinked_entry : (key : Key) (link : Link) (t u : Probed) (old : Buckets) → ((n : ℕ) → link ≡ links.Bucket n → ⊥) → ((k : Key) → link_in u k ≡ (if same_key key k then link else link_in t k)) → IsRelinked key link (link_in t) (link_in u) old old
+relinked_entry : (key : Key) (link : Link) (t u : Chained) (old : Buckets) → ((n : ℕ) → link ≡ links.Bucket n → ⊥) → ((k : Key) → link_in u k ≡ (if same_key key k then link else link_in t k)) → IsRelinked key link (link_in t) (link_in u) old old
 relinked_entry key link t u old away h = record { linked = h; others = λ k n s b. refl; there = λ n b. absurd (away n b); own = λ k n b d. absurd (away n b) }
 
-pub relinked_nowhere : (key : Key) (t u : Probed) (old : Buckets) → ((k : Key) → link_in u k ≡ (if same_key key k then links.Nowhere else link_in t k)) → IsRelinked key links.Nowhere (link_in t) (link_in u) old old
+pub relinked_nowhere : (key : Key) (t u : Chained) (old : Buckets) → ((k : Key) → link_in u k ≡ (if same_key key k then links.Nowhere else link_in t k)) → IsRelinked key links.Nowhere (link_in t) (link_in u) old old
 relinked_nowhere key t u old h = relinked_entry key links.Nowhere t u old (λ n b. cc) h
 
-pub relinked_alone : (key : Key) (label : ℕ) (t u : Probed) (old : Buckets) → ((k : Key) → link_in u k ≡ (if same_key key k then links.Alone label else link_in t k)) → IsRelinked key (links.Alone label) (link_in t) (link_in u) old old
+pub relinked_alone : (key : Key) (label : ℕ) (t u : Chained) (old : Buckets) → ((k : Key) → link_in u k ≡ (if same_key key k then links.Alone label else link_in t k)) → IsRelinked key (links.Alone label) (link_in t) (link_in u) old old
 relinked_alone key label t u old h = relinked_entry key (links.Alone label) t u old (λ n b. cc) h
 
 -- a key's only label was set in its entry, or not
-pub index_set : {X E : Type 0} (r : Result X E) (key : Key) (t u : Probed) (old : Buckets) (label : ℕ) → OnOk r ((k : Key) → link_in u k ≡ (if same_key key k then links.Alone label else link_in t k)) → OnErr r ((k : Key) → link_in u k ≡ link_in t k) → IsIndex t old → IsIndex u old
+pub index_set : {X E : Type 0} (r : Result X E) (key : Key) (t u : Chained) (old : Buckets) (label : ℕ) → OnOk r ((k : Key) → link_in u k ≡ (if same_key key k then links.Alone label else link_in t k)) → OnErr r ((k : Key) → link_in u k ≡ link_in t k) → IsIndex t old → IsIndex u old
 index_set (Ok x) key t u old label ok err i = index_relinked key (links.Alone label) t u old old (relinked_alone key label t u old ok) i
 index_set (Err e) key t u old label ok err i = index_same t u old err i
 
@@ -85,7 +85,7 @@ some_there o ms h = subst (λ (z : Option (List ℕ)). IsSome z) (sym h) refl
 none_there : (o : Option (List ℕ)) → o ≡ None → IsSome o → ⊥
 none_there o h s = false≢true (subst (λ (z : Option (List ℕ)). IsSome z) h s)
 
-module _ (key : Key) (n : ℕ) (t u : Probed) (old new : Buckets) (i : IsIndex t old) where
+module _ (key : Key) (n : ℕ) (t u : Chained) (old new : Buckets) (i : IsIndex t old) where
   -- a key gets a new bucket
   pub relinked_new : (ms : List ℕ) → get old n ≡ None → Updates old new n (Some ms) → ((k : Key) → link_in u k ≡ (if same_key key k then links.Bucket n else link_in t k)) → IsRelinked key (links.Bucket n) (link_in t) (link_in u) old new
   relinked_new ms vacant up h = record {
@@ -121,11 +121,11 @@ module _ (key : Key) (n : ℕ) (t u : Probed) (old new : Buckets) (i : IsIndex t
 
 -- ---- what an index has then
 
-module _ (t : Probed) (old : Buckets) (seen : Indexed) (view : record { table = t; buckets = old } ≡ seen) (key : Key) where
+module _ (t : Chained) (old : Buckets) (seen : Indexed) (view : record { table = t; buckets = old } ≡ seen) (key : Key) where
   pub own_labels : (l : Link) → link_in t key ≡ l → labels_of seen key ≡ labels_at old l
   own_labels l h = ap (λ (s : Indexed). labels_of s key) (sym view) ∙ ap (labels_at old) h
 
-  pub labels_changed : (F : List ℕ → List ℕ) (l link : Link) (u : Probed) (new : Buckets) → link_in t key ≡ l → IsRelinked key link (link_in t) (link_in u) old new → labels_at new link ≡ F (labels_at old l)
+  pub labels_changed : (F : List ℕ → List ℕ) (l link : Link) (u : Chained) (new : Buckets) → link_in t key ≡ l → IsRelinked key link (link_in t) (link_in u) old new → labels_at new link ≡ F (labels_at old l)
       → (k : Key) → labels_at new (link_in u k) ≡ (if same_key key k then F (labels_of seen key) else labels_of seen k)
   labels_changed F l link u new h r e k =
       labels_relinked key link t u old new r (F (labels_of seen key)) (e ∙ ap F (sym (own_labels l h))) k

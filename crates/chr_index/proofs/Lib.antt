@@ -1,3 +1,3 @@
 pub mod Slots
-pub mod Probes
+pub mod Chaining
 pub mod Indexes

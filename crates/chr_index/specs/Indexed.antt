@@ -5,11 +5,11 @@ use Rattle.slab.specs.Slab.{Slab, get}
 use Rattle.chr_index.specs.declared.table.Key.{Key}
 use Rattle.chr_index.specs.declared.table.Link.{Link}
 use Rattle.chr_index.specs.declared.table.Link.TheVariants as links
-use Rattle.chr_index.specs.Probing.{Probed, link_in, same_key}
+use Rattle.chr_index.specs.Chains.{Chained, link_in, same_key}
 
 -- the table, and the labels in each bucket
 pub record Indexed : Type 0 where
-  pub table : Probed
+  pub table : Chained
   pub buckets : Slab (List ℕ)
 
 -- the labels in a bucket, none where there is no such bucket
@@ -26,7 +26,7 @@ abbrev pub labels_of : Indexed → Key → List ℕ
 labels_of i k = labels_at i.buckets (link_in i.table k)
 
 -- each bucket that a key has is there, and no other key has it
-pub record IsIndex (table : Probed) (buckets : Slab (List ℕ)) : Type 0 where
+pub record IsIndex (table : Chained) (buckets : Slab (List ℕ)) : Type 0 where
   pub there : (k : Key) (n : ℕ) → link_in table k ≡ links.Bucket n → IsSome (get buckets n)
   pub own : (k l : Key) (n : ℕ) → link_in table k ≡ links.Bucket n →
       link_in table l ≡ links.Bucket n → same_key k l ≡ true

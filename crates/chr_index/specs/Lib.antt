@@ -1,4 +1,4 @@
 pub mod Buckets
 pub mod Walked
-pub mod Probing
+pub mod Chains
 pub mod Indexed

@@ -4,7 +4,7 @@ ghost use Rattle.std.specs.List.{AllByRecursion};
 ghost use Rattle.slab.specs.Slab.{get, ContainsKey, Updates, SameValues};
 ghost use Rattle.chr_value.specs.Stores.{greatest_label};
 ghost use Rattle.chr_index.specs.Buckets.{drop_number};
-ghost use Rattle.chr_index.specs.Probing.{same_key};
+ghost use Rattle.chr_index.specs.Chains.{same_key};
 ghost use Rattle.chr_index.specs.Indexed.{bucket_labels, labels_of};
 
 use crate::bucket::Bucket;

@@ -1,7 +1,8 @@
 //! A table of keys, and of where their labels are.
-ghost use Rattle.std.specs.Prelude.{◌≡◌, ℕ, false, ◌+◌, ◌<◌, OnOk, OnErr, IfOk, IsTrue, if◌then◌else◌, drop, length};
+ghost use Rattle.std.specs.Prelude.{◌≡◌, ℕ, ◌*◌, ◌-◌, ◌/◌, ◌%◌, ◌^◌, ◌<◌, ◌≤◌, OnOk, OnErr, IfOk, if◌then◌else◌, filter, length, slice_index};
+ghost use Rattle.chr_index.specs.declared.table.Key.{Key as AnyKey};
 ghost use Rattle.chr_index.specs.declared.table.Link.TheVariants as links;
-ghost use Rattle.chr_index.specs.Probing.{same_key, key_of, is_vacant, linked, stops, passed, home, IsLonger, place_of, link_at, link_in};
+ghost use Rattle.chr_index.specs.Chains.{same_key, key_of, linked, has_labels, home, place_of, link_at, link_in, IsChained, HasSameLinks};
 
 use std::alloc::{AllocError, Allocator};
 use std::marker::Model;
@@ -9,11 +10,14 @@ use std::marker::Model;
 /// By how much a word is multiplied for its hash, whose high bits are its home.
 const FACTOR: u64 = 0x9e37_79b9_7f4a_7c15;
 
-/// By how much a hash is shifted in the least table, which has eight homes.
+/// By how much a hash is shifted where there are the fewest homes, which are eight.
 const GREATEST_SHIFT: u32 = 61;
 
-/// How many entries at most lie behind the last home as a table is made.
-const GREATEST_TAIL: usize = 64;
+/// The greatest place of an entry.
+const GREATEST_PLACE: usize = u32::MAX as usize;
+
+/// How many numbers a half of a word may be.
+const HALF: u64 = 1 << 32;
 
 /// What a key's word is: a number or a symbol, or the digest of a compound value, which others may have too.
 #[derive(Clone, Copy, PartialEq, Eq)]
@@ -30,10 +34,9 @@ pub struct Key {
     pub kind: Kind,
 }
 
-/// What an entry has: nothing, or a key with no label, with one, or with a bucket.
+/// What an entry's key has: no label, one, or a bucket.
 #[derive(Clone, Copy, PartialEq, Eq)]
 pub(crate) enum State {
-    Vacant,
     Bare,
     Alone,
     Bucket,
@@ -47,31 +50,42 @@ pub(crate) enum Link {
     Bucket(u32),
 }
 
-/// A key with its link.
+/// A key with its link, and the place of the last entry before it that has the same home. The key's word stands in two
+/// halves, since a `u64` would make an entry 24 bytes long.
 #[derive(Clone, Copy, Drop)]
 pub(crate) struct Entry {
-    word: u64,
+    low: u32,
+    high: u32,
     link: u32,
+    next: u32,
     kind: Kind,
     state: State,
 }
 
-const _: () = prove!(size_of::<Entry>() == 16);
+const _: () = prove!(size_of::<Entry>() == 20);
 
-/// An entry with no key.
-const VACANT: Entry = Entry {
-    word: 0,
-    link: 0,
-    kind: Kind::Int,
-    state: State::Vacant,
-};
+/// The low half of a word.
+#[inline(always)]
+fn low_half(word: u64) -> u32
+    ensures { result ≡ word % 2 ^ 32 }
+{
+    (word % HALF) as u32
+}
+
+/// The high half of a word.
+#[inline(always)]
+fn high_half(word: u64) -> u32
+    ensures { result ≡ word / 2 ^ 32 }
+{
+    (word / HALF) as u32
+}
 
 impl Entry {
-    /// A key with its link.
-    fn new(key: Key, link: Link) -> Entry
+    /// A key with its link, and the place of the next entry of its chain.
+    fn new(key: Key, link: Link, next: u32) -> Entry
         ensures key { key_of result ≡ key }
         ensures link { linked result.state result.link ≡ link }
-        ensures taken { is_vacant result.state ≡ false }
+        ensures next { result.next ≡ next }
     {
         let (state, link) = match link {
             Link::Nowhere => (State::Bare, 0),
@@ -79,27 +93,21 @@ impl Entry {
             Link::Bucket(number) => (State::Bucket, number),
         };
         Entry {
-            word: key.word,
+            low: low_half(key.word),
+            high: high_half(key.word),
             link,
+            next,
             kind: key.kind,
             state,
         }
     }
 
-    /// Whether there is no key.
-    #[inline(always)]
-    fn is_vacant(&self) -> bool
-        ensures { result ≡ is_vacant self.now.state }
-    {
-        self.state == State::Vacant
-    }
-
-    /// The key, where there is one.
+    /// The key.
     fn key(&self) -> Key
         ensures { result ≡ key_of self.now }
     {
         Key {
-            word: self.word,
+            word: u64::from(self.high) * HALF + u64::from(self.low),
             kind: self.kind,
         }
     }
@@ -110,31 +118,30 @@ impl Entry {
         ensures { result ≡ linked self.now.state self.now.link }
     {
         match self.state {
-            State::Vacant | State::Bare => Link::Nowhere,
+            State::Bare => Link::Nowhere,
             State::Alone => Link::Alone(self.link),
             State::Bucket => Link::Bucket(self.link),
         }
     }
 
-    /// Whether there is a key with labels.
+    /// Whether the key has labels.
     #[inline(always)]
     fn has_labels(&self) -> bool
-        ensures taken { IsTrue result → is_vacant self.now.state ≡ false }
-        ensures bare { result ≡ false → linked self.now.state self.now.link ≡ links.Nowhere }
+        ensures { result ≡ has_labels self.now }
     {
-        self.state == State::Alone || self.state == State::Bucket
+        self.state != State::Bare
     }
 
-    /// Whether probing for a key stops here.
+    /// Whether this is a key's entry.
     #[inline(always)]
-    fn stops(&self, key: Key) -> bool
-        ensures { result ≡ stops key self.now }
+    fn has_key(&self, key: Key) -> bool
+        ensures { result ≡ same_key key (key_of self.now) }
     {
-        self.state == State::Vacant || (key.word == self.word && key.kind == self.kind)
+        low_half(key.word) == self.low && high_half(key.word) == self.high && key.kind == self.kind
     }
 }
 
-/// Where probing for a key begins.
+/// A key's home.
 #[inline(always)]
 fn home(shift: u32, key: Key) -> usize
     requires { shift < 64 }
@@ -143,56 +150,97 @@ fn home(shift: u32, key: Key) -> usize
     (key.word.wrapping_mul(FACTOR) >> shift) as usize
 }
 
-/// Where probing for a key ends that begins at a place.
+/// The head of a home: the place of the last entry that has it.
 #[inline(always)]
-fn probe(entries: &[Entry], home: usize, key: Key) -> usize
-    ensures { result ≡ home + passed key (drop home entries.now) }
+fn head(heads: &[u32], home: usize) -> u32
+    ensures { result ≡ slice_index heads.now home }
 {
-    let mut place = home;
-    while place < entries.len() && !entries[place].stops(key) {
-        place += 1;
+    match heads.get(home) {
+        None => 0,
+        Some(place) => *place,
     }
-    place
 }
 
 /// How many keys have labels.
-fn count_used(entries: &[Entry]) -> usize {
-    let mut used: usize = 0;
+fn count_used(entries: &[Entry]) -> usize
+    ensures { result ≤ length entries.now }
+{
+    let mut used = 0;
     for entry in entries {
         if entry.has_labels() {
-            used = used.saturating_add(1);
+            used += 1;
         }
     }
     used
 }
 
-/// Makes vacant entries up to a place. E01 where one could not be made.
-fn cover<A: Allocator + Copy>(entries: &mut Vec<Entry, A>, place: usize) -> Result<(), AllocError>
-    ensures within { OnOk result (place < length entries.new.items) }
-    ensures same { IsLonger entries.old.items entries.new.items }
+/// Takes the entries out whose keys have no labels.
+fn keep_used<A: Allocator>(entries: &mut Vec<Entry, A>)
+    ensures used { entries.new.items ≡ filter has_labels entries.old.items }
+    ensures count { length entries.new.items ≤ length entries.old.items }
 {
-    while entries.len() <= place {
-        entries.push(VACANT)?;
-    }
-    Ok(())
+    entries.retain(|entry| entry.has_labels());
 }
 
-/// Keys with their links. Contracts see the entries, and the shift that gives homes.
+/// By how much hashes are shifted for so many keys with labels: there are twice as many homes or more.
+fn shift_for(used: usize) -> u32
+    requires { used < 2 ^ 32 }
+    ensures some { 0 < result }
+    ensures within { result < 64 }
+    ensures room { 2 * used ≤ 2 ^ (64 - result) }
+{
+    (2 * used)
+        .saturating_sub(1)
+        .leading_zeros()
+        .min(GREATEST_SHIFT)
+}
+
+/// Heads of homes that no entry has. E01 where memory ran out.
+fn no_heads<A: Allocator + Copy>(alloc: A, shift: u32) -> Result<Vec<u32, A>, AllocError>
+    requires some { 0 < shift }
+    requires within { shift < 64 }
+    ensures none { IfOk result (λ heads. (h : ℕ) → slice_index heads.items h ≡ 0) }
+    ensures homes { IfOk result (λ heads. (k : AnyKey) → home shift k < length heads.items) }
+{
+    let mut heads = Vec::new(alloc);
+    heads.resize(1 << (u64::BITS - shift), 0)?;
+    Ok(heads)
+}
+
+/// Chains the entries, where no home has a head yet.
+fn chain_all(heads: &mut [u32], entries: &mut [Entry], shift: u32)
+    requires shift { shift < 64 }
+    requires none { (h : ℕ) → slice_index heads.old h ≡ 0 }
+    requires homes { (k : AnyKey) → home shift k < length heads.old }
+    requires places { length entries.old < 2 ^ 32 }
+    ensures count { length heads.new ≡ length heads.old }
+    ensures entry_count { length entries.new ≡ length entries.old }
+    ensures chained { IsChained shift heads.new entries.new }
+    ensures same { HasSameLinks entries.old entries.new }
+{
+    for i in 0..entries.len() {
+        let home = home(shift, entries[i].key());
+        entries[i].next = heads[home];
+        heads[home] = i as u32 + 1;
+    }
+}
+
+/// Keys with their links. Contracts see the heads, the entries, and the shift that gives homes.
 #[derive(Drop)]
 pub(crate) struct Table<A: Allocator> {
+    heads: Vec<u32, A>,
     entries: Vec<Entry, A>,
     shift: u32,
-    taken: usize,
 }
 
 impl<A: Allocator> Model for Table<A> {
-    ghost use Rattle.chr_index.specs.Probing.{Probed, IsTable};
+    ghost use Rattle.chr_index.specs.Chains.{Chained, IsTable};
 
-    ghost Value = { Probed };
+    ghost Value = { Chained };
 
-    ghost view = { λ t. record { entries = t.entries.items; shift = t.shift } };
+    ghost view = { λ t. record { heads = t.heads.items; entries = t.entries.items; shift = t.shift } };
 
-    ghost invariant = { λ t. IsTable (record { entries = t.entries.items; shift = t.shift }) };
+    ghost invariant = { λ t. IsTable (record { heads = t.heads.items; entries = t.entries.items; shift = t.shift }) };
 }
 
 impl<A: Allocator + Copy> Table<A> {
@@ -201,114 +249,97 @@ impl<A: Allocator + Copy> Table<A> {
         ensures { (k : Key) → link_in result k ≡ links.Nowhere }
     {
         Table {
+            heads: Vec::new(alloc),
             entries: Vec::new(alloc),
             shift: GREATEST_SHIFT,
-            taken: 0,
         }
     }
 
-    /// No keys, and room for so many. E01 where memory ran out.
-    fn with_room(alloc: A, keys: usize) -> Result<Table<A>, AllocError>
-        ensures { IfOk result (λ made. (k : Key) → link_in made k ≡ links.Nowhere) }
-    {
-        let shift = keys.saturating_mul(2).leading_zeros().min(GREATEST_SHIFT);
-        let last_home = usize::MAX >> shift;
-        let tail = 1 + (last_home / 4).min(GREATEST_TAIL);
-        let mut entries = Vec::new(alloc);
-        entries.resize(last_home.saturating_add(tail), VACANT)?;
-        Ok(Table {
-            entries,
-            shift,
-            taken: 0,
-        })
-    }
-
-    /// Where probing for a key ends.
+    /// The place of a key's entry, 0 where it has none.
     #[inline(always)]
-    pub fn place(&self, key: Key) -> usize
-        ensures { result ≡ place_of self.now key }
+    pub fn place(&self, key: Key) -> u32
+        ensures key { result ≡ place_of self.now key }
+        ensures within { result ≤ length self.now.entries }
     {
-        probe(&self.entries, home(self.shift, key), key)
+        let mut place = head(&self.heads, home(self.shift, key));
+        while place != 0 {
+            let entry = &self.entries[place as usize - 1];
+            if entry.has_key(key) {
+                return place;
+            }
+            place = entry.next;
+        }
+        0
     }
 
     /// Where the labels are of the key at a place.
     #[inline(always)]
-    pub fn link_at(&self, place: usize) -> Link
+    pub fn link_at(&self, place: u32) -> Link
+        requires { place ≤ length self.now.entries }
         ensures { result ≡ link_at self.now.entries place }
     {
-        match self.entries.get(place) {
-            None => Link::Nowhere,
-            Some(entry) => entry.link(),
+        if place == 0 {
+            return Link::Nowhere;
         }
+        self.entries[place as usize - 1].link()
     }
 
-    /// Whether the entry at a place is vacant, or there is none.
-    fn is_free(&self, place: usize) -> bool
-        ensures { result ≡ false → place < length self.now.entries }
-    {
-        match self.entries.get(place) {
-            None => true,
-            Some(entry) => entry.is_vacant(),
-        }
-    }
-
-    /// Links a key anew, at the place where probing for it ends. Takes no memory.
-    pub fn write(&mut self, place: usize, key: Key, link: Link)
-        requires end { place ≡ place_of self.old key }
-        requires within { place < length self.old.entries }
+    /// Links a key anew, at the place of its entry. Takes no memory.
+    pub fn write(&mut self, place: u32, key: Key, link: Link)
+        requires key { place ≡ place_of self.old key }
+        requires some { 0 < place }
         ensures { (k : Key) → link_in self.new k ≡ (if same_key key k then link else link_in self.old k) }
     {
-        self.entries[place] = Entry::new(key, link);
+        let index = place as usize - 1;
+        self.entries[index] = Entry::new(key, link, self.entries[index].next);
     }
 
-    /// Links a key at the place where probing for it ends. E01 where an entry could not be added.
-    fn enter(&mut self, place: usize, key: Key, link: Link) -> Result<(), AllocError>
-        requires { place ≡ place_of self.old key }
+    /// Links a key that has no entry. E01 where one could not be added.
+    fn enter(&mut self, key: Key, link: Link) -> Result<(), AllocError>
+        requires key { place_of self.old key ≡ 0 }
+        requires heads { 0 < length self.old.heads }
         ensures ok { OnOk result ((k : Key) → link_in self.new k ≡ (if same_key key k then link else link_in self.old k)) }
         ensures unchanged { OnErr result ((k : Key) → link_in self.new k ≡ link_in self.old k) }
     {
-        cover(&mut self.entries, place)?;
-        self.write(place, key, link);
-        self.taken = self.taken.saturating_add(1);
+        if self.entries.len() >= GREATEST_PLACE {
+            return Err(AllocError);
+        }
+        let home = home(self.shift, key);
+        self.entries.push(Entry::new(key, link, self.heads[home]))?;
+        self.heads[home] = self.entries.len() as u32;
         Ok(())
     }
 
-    /// A table of the keys that have labels, with room for as many more. E01 where memory ran out.
-    fn renewed(&self, alloc: A) -> Result<Table<A>, AllocError>
-        ensures { IfOk result (λ made. (k : Key) → link_in made k ≡ link_in self.now k) }
-    {
-        let mut made = Table::with_room(alloc, count_used(&self.entries))?;
-        for entry in &self.entries {
-            if entry.has_labels() {
-                let key = entry.key();
-                made.enter(made.place(key), key, entry.link())?;
-            }
-        }
-        Ok(made)
-    }
-
-    /// Makes the table anew where three quarters of the homes are taken. E01 where memory ran out.
+    /// Takes the keys without labels out and makes the heads anew, where there are as many entries as heads. E01 where memory ran out.
     fn make_room(&mut self, alloc: A) -> Result<(), AllocError>
-        ensures { (k : Key) → link_in self.new k ≡ link_in self.old k }
+        ensures heads { OnOk result (0 < length self.new.heads) }
+        ensures absent { (k : Key) → place_of self.old k ≡ 0 → place_of self.new k ≡ 0 }
+        ensures links { (k : Key) → link_in self.new k ≡ link_in self.old k }
     {
-        let last_home = usize::MAX >> self.shift;
-        if self.taken >= last_home - last_home / 4 {
-            *self = self.renewed(alloc)?;
+        if self.entries.len() < self.heads.len() {
+            return Ok(());
         }
+        let shift = shift_for(count_used(&self.entries));
+        let mut heads = no_heads(alloc, shift)?;
+        keep_used(&mut self.entries);
+        self.entries.shrink_to(heads.len());
+        chain_all(&mut heads, &mut self.entries, shift);
+        self.heads = heads;
+        self.shift = shift;
         Ok(())
     }
 
-    /// Links a key, at the place where probing for it ends or in a table that has been made anew. E01 where memory ran out.
-    pub fn set(&mut self, alloc: A, place: usize, key: Key, link: Link) -> Result<(), AllocError>
+    /// Links a key, at the place of its entry or in a new one. E01 where memory ran out.
+    pub fn set(&mut self, alloc: A, place: u32, key: Key, link: Link) -> Result<(), AllocError>
         requires { place ≡ place_of self.old key }
         ensures ok { OnOk result ((k : Key) → link_in self.new k ≡ (if same_key key k then link else link_in self.old k)) }
         ensures unchanged { OnErr result ((k : Key) → link_in self.new k ≡ link_in self.old k) }
     {
-        if !self.is_free(place) {
+        if place != 0 {
             self.write(place, key, link);
             return Ok(());
         }
         self.make_room(alloc)?;
-        self.enter(self.place(key), key, link)
+        self.enter(key, link)
     }
 }

@@ -6,9 +6,9 @@ use Rattle.std.proofs.lemmas.Bool.Decides.{nat_tests}
 use Rattle.chr_value.specs.Atoms.{Atom}
 use Rattle.chr_value.specs.declared.atom.Pred.{Pred}
 use Rattle.chr_index.specs.declared.table.Key.{Key as IndexKey}
-use Rattle.chr_index.specs.Probing.{same_key as same_index_key}
+use Rattle.chr_index.specs.Chains.{same_key as same_index_key}
 use Rattle.chr_index.specs.Indexed.{Indexed, labels_of}
-use Rattle.chr_index.proofs.Probes.{same_key_true as index_key_true, same_key_refl as index_key_refl, decided}
+use Rattle.chr_index.proofs.Chaining.{same_key_true as index_key_true, same_key_refl as index_key_refl, decided}
 use Rattle.chr_store.specs.declared.buckets.Buckets.{Buckets}
 use Rattle.chr_store.specs.KeyParts.{Key, KeyValue, value_of, kind_of, word_of}
 use Rattle.chr_store.specs.Index.{Places, IsKeyAt, chosen, is_own, is_pred, is_place, number_of, own_key, pred_of, same_key, same_value}
