@@ -203,19 +203,19 @@ home_own shift h k e = eq-eqb (home shift k) h (sym e)
 home_other : (shift h : ℕ) (k : Key) → (h ≡ home shift k → ⊥) → has_home shift h k ≡ false
 home_other shift h k n = elim (decided (has_home shift h k)) [ inl t ↦ absurd (n (sym (eqb-true (home shift k) h t))) | inr t ↦ t ]
 
-module _ (shift : ℕ) (heads : List ℕ) (es : List Entry) (e : Entry) (h n : ℕ) (is : h ≡ home shift (key_of e)) (last : n ≡ length es + 1) (within : h < length heads) (next : e.next ≡ slice_index heads h) (chained : IsChained shift heads es) where
+module _ (shift : ℕ) (chains : List ℕ) (es : List Entry) (e : Entry) (h n : ℕ) (is : h ≡ home shift (key_of e)) (last : n ≡ length es + 1) (within : h < length chains) (next : e.next ≡ slice_index chains h) (chained : IsChained shift chains es) where
   more_keys : keys_of (es ++ e ∷ []) ≡ keys_of es ++ key_of e ∷ []
   more_keys = map-append key_of es (e ∷ [])
 
   -- an entry comes after those that are chained
-  pub chained_push : IsChained shift (slice_set heads h n) (es ++ e ∷ [])
+  pub chained_push : IsChained shift (slice_set chains h n) (es ++ e ∷ [])
   chained_push = record {
-    head = λ j. elim (cases_eq j h) [
+    begin = λ j. elim (cases_eq j h) [
       | inl q ↦
-          ap (slice_index (slice_set heads h n)) q ∙ get_or-set_same heads h n 0 within ∙ last
+          ap (slice_index (slice_set chains h n)) q ∙ get_or-set_same chains h n 0 within ∙ last
           ∙ sym (ap (last_with (has_home shift j)) more_keys ∙ push_true (has_home shift j) (keys_of es) (key_of e) (home_own shift j (key_of e) (q ∙ is)) ∙ ap (λ (z : ℕ). z + 1) (length-map es key_of))
       | inr q ↦
-          get_or-set_other heads h j n 0 q ∙ chained.head j
+          get_or-set_other chains h j n 0 q ∙ chained.begin j
           ∙ sym (ap (last_with (has_home shift j)) more_keys ∙ push_false (has_home shift j) (keys_of es) (key_of e) (home_other shift j (key_of e) (λ z. q (z ∙ sym is))))
     ];
     next = λ i d g. elim (cases_eq i (length es)) [
@@ -224,7 +224,7 @@ module _ (shift : ℕ) (heads : List ℕ) (es : List Entry) (e : Entry) (h n : �
           let z : d ≡ e = cc in
           let front : take i (keys_of (es ++ e ∷ [])) ≡ keys_of es = ap (take i) more_keys ∙ take-append-le i (keys_of es) (key_of e ∷ []) (omega (arith, length-map es key_of)) ∙ take_all i (keys_of es) (omega (arith, length-map es key_of)) in
           subst (λ (y : Entry). y.next ≡ last_with (has_home shift (home shift (key_of y))) (take i (keys_of (es ++ e ∷ [])))) (sym z)
-          (next ∙ chained.head h ∙ ap (λ (m : ℕ). last_with (has_home shift m) (keys_of es)) is ∙ ap (last_with (has_home shift (home shift (key_of e)))) (sym front))
+          (next ∙ chained.begin h ∙ ap (λ (m : ℕ). last_with (has_home shift m) (keys_of es)) is ∙ ap (last_with (has_home shift (home shift (key_of e)))) (sym front))
       | inr q ↦
           let w : i < length es = omega (arith, slice_get_within (es ++ e ∷ []) i d g, length_push es e) in
           let front : take i (keys_of (es ++ e ∷ [])) ≡ take i (keys_of es) = ap (take i) more_keys ∙ take-append-le i (keys_of es) (key_of e ∷ []) (omega (arith, length-map es key_of)) in
@@ -235,7 +235,7 @@ module _ (shift : ℕ) (heads : List ℕ) (es : List Entry) (e : Entry) (h n : �
 -- ---- a table of these parts
 
 abbrev pub chained : List ℕ → List Entry → ℕ → Chained
-chained heads es shift = record { heads = heads; entries = es; shift = shift }
+chained chains es shift = record { chains = chains; entries = es; shift = shift }
 
 -- ---- a key is looked for along the chain of its home
 
@@ -248,18 +248,18 @@ pub record IsWalked (t : Chained) (k : Key) (place : ℕ) : Type 0 where
 same_home : (shift : ℕ) (k l : Key) → same_key k l ≡ true → has_home shift (home shift k) l ≡ true
 same_home shift k l t = home_own shift (home shift k) l (ap (home shift) (same_key_true k l t))
 
-pub walk_begins : (t : Chained) (k : Key) (place : ℕ) → IsTable t → place ≡ slice_index t.heads (home t.shift k) → IsWalked t k place
+pub walk_begins : (t : Chained) (k : Key) (place : ℕ) → IsTable t → place ≡ slice_index t.chains (home t.shift k) → IsWalked t k place
 walk_begins t k place table is =
     let q = has_home t.shift (home t.shift k) in
     let ks = keys_of t.entries in
-    let e : place ≡ last_with q ks = is ∙ table.chained.head (home t.shift k) in
+    let e : place ≡ last_with q ks = is ∙ table.chained.begin (home t.shift k) in
     record {
       within = omega (arith, e, last_le q ks, length-map t.entries key_of);
       chain = ap (λ (n : ℕ). last_with q (take n ks)) e ∙ last_whole q q ks (λ l h. h) ∙ sym e;
       rest = ap (λ (n : ℕ). last_with (same_key k) (take n ks)) e ∙ last_whole (same_key k) q ks (same_home t.shift k);
     }
 
-module _ (heads : List ℕ) (es : List Entry) (shift place : ℕ) (e : Entry) (t : Chained) (view : chained heads es shift ≡ t) (k : Key) (walked : IsWalked t k place) (some : place ≡ 0 → ⊥) (read : e ≡ get_or es (place - 1) e) (invariant : IsTable (chained heads es shift)) where
+module _ (chains : List ℕ) (es : List Entry) (shift place : ℕ) (e : Entry) (t : Chained) (view : chained chains es shift ≡ t) (k : Key) (walked : IsWalked t k place) (some : place ≡ 0 → ⊥) (read : e ≡ get_or es (place - 1) e) (invariant : IsTable (chained chains es shift)) where
   table : IsTable t
   table = subst IsTable view invariant
 
@@ -315,12 +315,12 @@ module _ (heads : List ℕ) (es : List Entry) (shift place : ℕ) (e : Entry) (t
 
 -- ---- an entry is written
 
-module _ (heads : List ℕ) (es : List Entry) (shift i : ℕ) (d e : Entry) (got : slice_get es i ≡ Some d) (end : suc i ≡ place_of (chained heads es shift) (key_of e)) (next : e.next ≡ d.next) (table : IsTable (chained heads es shift)) where
+module _ (chains : List ℕ) (es : List Entry) (shift i : ℕ) (d e : Entry) (got : slice_get es i ≡ Some d) (end : suc i ≡ place_of (chained chains es shift) (key_of e)) (next : e.next ≡ d.next) (table : IsTable (chained chains es shift)) where
   abbrev was : Chained
-  was = chained heads es shift
+  was = chained chains es shift
 
   abbrev now : Chained
-  now = chained heads (slice_set es i e) shift
+  now = chained chains (slice_set es i e) shift
 
   own_key : key_of e ≡ key_of d
   own_key = same_key_true (key_of e) (key_of d) (last_holds (same_key (key_of e)) (keys_of es) i (key_of d) (sym end) (got_key es i d got))
@@ -346,7 +346,7 @@ module _ (heads : List ℕ) (es : List Entry) (shift i : ℕ) (d e : Entry) (got
     places = omega (arith, table.places, length-set es i e);
     homes = table.homes;
     chained = record {
-      head = λ h. table.chained.head h ∙ ap (last_with (has_home shift h)) (sym keys_kept);
+      begin = λ h. table.chained.begin h ∙ ap (last_with (has_home shift h)) (sym keys_kept);
       next = λ j x g. elim (cases_eq j i) [
         | inl q ↦
             let own : Some x ≡ Some e = sym g ∙ ap (slice_get (slice_set es i e)) q ∙ got_set es i e (slice_get_within es i d got) in
@@ -360,24 +360,24 @@ module _ (heads : List ℕ) (es : List Entry) (shift i : ℕ) (d e : Entry) (got
   }
 
 -- the same for a key with a link, in a table as it is seen
-module _ (heads : List ℕ) (es : List Entry) (shift place : ℕ) (d e : Entry) (seen : Chained) (view : chained heads es shift ≡ seen) (key : Key) (link : Link) (is : key_of e ≡ key) (has : linked e.state e.link ≡ link) (next : e.next ≡ d.next)
-    (end : place ≡ place_of seen key) (some : 0 < place) (read : d ≡ get_or es (place - 1) d) (table : IsTable (chained heads es shift)) where
+module _ (chains : List ℕ) (es : List Entry) (shift place : ℕ) (d e : Entry) (seen : Chained) (view : chained chains es shift ≡ seen) (key : Key) (link : Link) (is : key_of e ≡ key) (has : linked e.state e.link ≡ link) (next : e.next ≡ d.next)
+    (end : place ≡ place_of seen key) (some : 0 < place) (read : d ≡ get_or es (place - 1) d) (table : IsTable (chained chains es shift)) where
   pub place_there : place - 1 < length es
   place_there = let n : length es ≡ length seen.entries = ap (λ (t : Chained). length t.entries) view in omega (arith, n, end, some, place_within seen key)
 
   there : slice_get es (place - 1) ≡ Some d
   there = slice_get_read es (length es) (place - 1) d refl place_there read
 
-  seen_end : suc (place - 1) ≡ place_of (chained heads es shift) (key_of e)
-  seen_end = let one : suc (place - 1) ≡ place = omega (arith, some) in one ∙ end ∙ ap (λ (t : Chained). place_of t key) (sym view) ∙ ap (place_of (chained heads es shift)) (sym is)
+  seen_end : suc (place - 1) ≡ place_of (chained chains es shift) (key_of e)
+  seen_end = let one : suc (place - 1) ≡ place = omega (arith, some) in one ∙ end ∙ ap (λ (t : Chained). place_of t key) (sym view) ∙ ap (place_of (chained chains es shift)) (sym is)
 
-  pub links_rewritten : (k : Key) → link_in (chained heads (slice_set es (place - 1) e) shift) k ≡ (if same_key key k then link else link_in seen k)
+  pub links_rewritten : (k : Key) → link_in (chained chains (slice_set es (place - 1) e) shift) k ≡ (if same_key key k then link else link_in seen k)
   links_rewritten k =
-      links_written heads es shift (place - 1) d e there seen_end next table k ∙ ap (λ (z : Key). if same_key z k then linked e.state e.link else link_in (chained heads es shift) k) is
-      ∙ ap (λ (l : Link). if same_key key k then l else link_in (chained heads es shift) k) has ∙ ap (λ (t : Chained). if same_key key k then link else link_in t k) view
+      links_written chains es shift (place - 1) d e there seen_end next table k ∙ ap (λ (z : Key). if same_key z k then linked e.state e.link else link_in (chained chains es shift) k) is
+      ∙ ap (λ (l : Link). if same_key key k then l else link_in (chained chains es shift) k) has ∙ ap (λ (t : Chained). if same_key key k then link else link_in t k) view
 
-  pub table_rewritten : IsTable (chained heads (slice_set es (place - 1) e) shift)
-  table_rewritten = table_written heads es shift (place - 1) d e there seen_end next table
+  pub table_rewritten : IsTable (chained chains (slice_set es (place - 1) e) shift)
+  table_rewritten = table_written chains es shift (place - 1) d e there seen_end next table
 
 -- ---- an entry comes after the others
 
@@ -392,12 +392,12 @@ differ_push (l ∷ ks) k d h =
     let none = none_more (last_with (same_key k) ks) (same_key k l) h in
     (push_false (same_key l) ks k (not_same k l none.1) ∙ d.0, differ_push ks k d.1 none.0)
 
-module _ (heads : List ℕ) (es : List Entry) (shift h n : ℕ) (e : Entry) (is : h ≡ home shift (key_of e)) (last : n ≡ length es + 1) (fits : n < 2 ^ 32) (next : e.next ≡ slice_index heads h) (some : 0 < length heads) (absent : place_of (chained heads es shift) (key_of e) ≡ 0) (table : IsTable (chained heads es shift)) where
+module _ (chains : List ℕ) (es : List Entry) (shift h n : ℕ) (e : Entry) (is : h ≡ home shift (key_of e)) (last : n ≡ length es + 1) (fits : n < 2 ^ 32) (next : e.next ≡ slice_index chains h) (some : 0 < length chains) (absent : place_of (chained chains es shift) (key_of e) ≡ 0) (table : IsTable (chained chains es shift)) where
   abbrev before : Chained
-  before = chained heads es shift
+  before = chained chains es shift
 
   abbrev after : Chained
-  after = chained (slice_set heads h n) (es ++ e ∷ []) shift
+  after = chained (slice_set chains h n) (es ++ e ∷ []) shift
 
   keys_more : keys_of (es ++ e ∷ []) ≡ keys_of es ++ key_of e ∷ []
   keys_more = map-append key_of es (e ∷ [])
@@ -418,16 +418,16 @@ module _ (heads : List ℕ) (es : List Entry) (shift h n : ℕ) (e : Entry) (is 
   table_entered = record {
     shift = table.shift;
     places = omega (arith, length_push es e, last, fits);
-    homes = λ w k. omega (arith, length-set heads h n, table.homes some k);
-    chained = chained_push shift heads es e h n is last (omega (arith, is, table.homes some (key_of e))) next table.chained;
+    homes = λ w k. omega (arith, length-set chains h n, table.homes some k);
+    chained = chained_push shift chains es e h n is last (omega (arith, is, table.homes some (key_of e))) next table.chained;
     differ = subst KeysDiffer (sym keys_more) (differ_push (keys_of es) (key_of e) table.differ absent);
   }
 
 -- the same for a key with a link, in a table as it is seen
-module _ (heads : List ℕ) (es new : List Entry) (shift h n first : ℕ) (e : Entry) (seen : Chained) (view : chained heads es shift ≡ seen) (key : Key) (link : Link) (is : key_of e ≡ key) (has : linked e.state e.link ≡ link) (next : e.next ≡ first) (read : first ≡ get_or heads h first)
-    (more : new ≡ es ++ e ∷ []) (at : h ≡ home shift key) (last : n ≡ length new) (fits : length es < 4294967295) (absent : place_of seen key ≡ 0) (some : 0 < length seen.heads) (table : IsTable (chained heads es shift)) where
-  some_heads : 0 < length heads
-  some_heads = let w : length heads ≡ length seen.heads = ap (λ (t : Chained). length t.heads) view in omega (arith, some, w)
+module _ (chains : List ℕ) (es new : List Entry) (shift h n first : ℕ) (e : Entry) (seen : Chained) (view : chained chains es shift ≡ seen) (key : Key) (link : Link) (is : key_of e ≡ key) (has : linked e.state e.link ≡ link) (next : e.next ≡ first) (read : first ≡ get_or chains h first)
+    (more : new ≡ es ++ e ∷ []) (at : h ≡ home shift key) (last : n ≡ length new) (fits : length es < 4294967295) (absent : place_of seen key ≡ 0) (some : 0 < length seen.chains) (table : IsTable (chained chains es shift)) where
+  some_chains : 0 < length chains
+  some_chains = let w : length chains ≡ length seen.chains = ap (λ (t : Chained). length t.chains) view in omega (arith, some, w)
 
   own_home : h ≡ home shift (key_of e)
   own_home = at ∙ ap (home shift) (sym is)
@@ -435,20 +435,20 @@ module _ (heads : List ℕ) (es new : List Entry) (shift h n first : ℕ) (e : E
   own_place : n ≡ length es + 1
   own_place = last ∙ ap (λ (z : List Entry). length z) more ∙ length_push es e
 
-  own_next : e.next ≡ slice_index heads h
-  own_next = next ∙ get_or_read heads h first (omega (arith, at, table.homes some_heads key)) read 0
+  own_next : e.next ≡ slice_index chains h
+  own_next = next ∙ get_or_read chains h first (omega (arith, at, table.homes some_chains key)) read 0
 
-  own_absent : place_of (chained heads es shift) (key_of e) ≡ 0
-  own_absent = ap (place_of (chained heads es shift)) is ∙ ap (λ (t : Chained). place_of t key) view ∙ absent
+  own_absent : place_of (chained chains es shift) (key_of e) ≡ 0
+  own_absent = ap (place_of (chained chains es shift)) is ∙ ap (λ (t : Chained). place_of t key) view ∙ absent
 
-  pub links_added : (k : Key) → link_in (chained (slice_set heads h n) new shift) k ≡ (if same_key key k then link else link_in seen k)
+  pub links_added : (k : Key) → link_in (chained (slice_set chains h n) new shift) k ≡ (if same_key key k then link else link_in seen k)
   links_added k =
-      ap (λ (z : List Entry). link_in (chained (slice_set heads h n) z shift) k) more ∙ links_entered heads es shift h n e own_home own_place (omega (arith, fits, own_place)) own_next some_heads own_absent table k
-      ∙ ap (λ (z : Key). if same_key z k then linked e.state e.link else link_in (chained heads es shift) k) is
-      ∙ ap (λ (l : Link). if same_key key k then l else link_in (chained heads es shift) k) has ∙ ap (λ (t : Chained). if same_key key k then link else link_in t k) view
+      ap (λ (z : List Entry). link_in (chained (slice_set chains h n) z shift) k) more ∙ links_entered chains es shift h n e own_home own_place (omega (arith, fits, own_place)) own_next some_chains own_absent table k
+      ∙ ap (λ (z : Key). if same_key z k then linked e.state e.link else link_in (chained chains es shift) k) is
+      ∙ ap (λ (l : Link). if same_key key k then l else link_in (chained chains es shift) k) has ∙ ap (λ (t : Chained). if same_key key k then link else link_in t k) view
 
-  pub table_added : IsTable (chained (slice_set heads h n) new shift)
-  table_added = subst (λ (z : List Entry). IsTable (chained (slice_set heads h n) z shift)) (sym more) (table_entered heads es shift h n e own_home own_place (omega (arith, fits, own_place)) own_next some_heads own_absent table)
+  pub table_added : IsTable (chained (slice_set chains h n) new shift)
+  table_added = subst (λ (z : List Entry). IsTable (chained (slice_set chains h n) z shift)) (sym more) (table_entered chains es shift h n e own_home own_place (omega (arith, fits, own_place)) own_next some_chains own_absent table)
 
 -- ---- keys without labels are taken out
 
@@ -517,18 +517,18 @@ found_kept k (e ∷ es) d = elim (decided (has_labels e)) [
 -- ---- the table is made anew
 
 -- the first entries are chained, and all have the links that they had
-pub record IsChainedUpTo (shift i : ℕ) (heads : List ℕ) (old new : List Entry) : Type 0 where
-  pub chained : IsChained shift heads (take i new)
+pub record IsChainedUpTo (shift i : ℕ) (chains : List ℕ) (old new : List Entry) : Type 0 where
+  pub chained : IsChained shift chains (take i new)
   pub same : HasSameLinks old new
 
-pub chained_more : (shift i h : ℕ) (heads : List ℕ) (old es : List Entry) (d e : Entry) → slice_get es i ≡ Some d → key_of e ≡ key_of d → linked e.state e.link ≡ linked d.state d.link → e.next ≡ slice_index heads h → h ≡ home shift (key_of d) → h < length heads
-    → IsChainedUpTo shift i heads old es → IsChainedUpTo shift (i + 1) (slice_set heads h (i + 1)) old (slice_set es i e)
-chained_more shift i h heads old es d e got key link next is within c =
+pub chained_more : (shift i h : ℕ) (chains : List ℕ) (old es : List Entry) (d e : Entry) → slice_get es i ≡ Some d → key_of e ≡ key_of d → linked e.state e.link ≡ linked d.state d.link → e.next ≡ slice_index chains h → h ≡ home shift (key_of d) → h < length chains
+    → IsChainedUpTo shift i chains old es → IsChainedUpTo shift (i + 1) (slice_set chains h (i + 1)) old (slice_set es i e)
+chained_more shift i h chains old es d e got key link next is within c =
     let w : i < length es = slice_get_within es i d got in
     record {
       chained =
-          subst (IsChained shift (slice_set heads h (i + 1))) (sym (take_more_set es i e w))
-          (chained_push shift heads (take i es) e h (i + 1) (is ∙ ap (home shift) (sym key)) (omega (arith, length-take-le i es (omega arith))) within next c.chained);
+          subst (IsChained shift (slice_set chains h (i + 1))) (sym (take_more_set es i e w))
+          (chained_push shift chains (take i es) e h (i + 1) (is ∙ ap (home shift) (sym key)) (omega (arith, length-take-le i es (omega arith))) within next c.chained);
       same = record {
         keys = keys_set es i d e got key ∙ c.same.keys;
         links = λ place. elim (cases_eq place (suc i)) [
@@ -538,15 +538,15 @@ chained_more shift i h heads old es d e got key link next is within c =
       };
     }
 
-module _ (old : Chained) (heads : List ℕ) (shift : ℕ) (kept new : List Entry) (is : kept ≡ filter has_labels old.entries) (same : HasSameLinks kept new) (table : IsTable old) where
-  pub absent_renewed : (k : Key) → place_of old k ≡ 0 → place_of (chained heads new shift) k ≡ 0
+module _ (old : Chained) (chains : List ℕ) (shift : ℕ) (kept new : List Entry) (is : kept ≡ filter has_labels old.entries) (same : HasSameLinks kept new) (table : IsTable old) where
+  pub absent_renewed : (k : Key) → place_of old k ≡ 0 → place_of (chained chains new shift) k ≡ 0
   absent_renewed k h = ap (last_with (same_key k)) (same.keys ∙ ap keys_of is) ∙ absent_kept (same_key k) old.entries h
 
-  pub links_renewed : (k : Key) → link_in (chained heads new shift) k ≡ link_in old k
+  pub links_renewed : (k : Key) → link_in (chained chains new shift) k ≡ link_in old k
   links_renewed k =
-      same.links (place_of (chained heads new shift) k) ∙ ap (λ (ks : List Key). link_at kept (last_with (same_key k) ks)) same.keys ∙ ap (found k) is ∙ found_kept k old.entries table.differ
+      same.links (place_of (chained chains new shift) k) ∙ ap (λ (ks : List Key). link_at kept (last_with (same_key k) ks)) same.keys ∙ ap (found k) is ∙ found_kept k old.entries table.differ
 
-  pub table_renewed : shift < 64 → length new < 2 ^ 32 → ((k : Key) → home shift k < length heads) → IsChained shift heads new → IsTable (chained heads new shift)
+  pub table_renewed : shift < 64 → length new < 2 ^ 32 → ((k : Key) → home shift k < length chains) → IsChained shift chains new → IsTable (chained chains new shift)
   table_renewed low few homes chain = record {
     shift = low;
     places = few;

@@ -9,9 +9,9 @@ use Rattle.chr_index.specs.declared.table.Link.{Link}
 use Rattle.chr_index.specs.declared.table.Link.TheVariants as links
 use Rattle.chr_index.specs.declared.table.Entry.{Entry}
 
--- the head of each home, the entries, and by how much a hash is shifted to give a home
+-- where the chain of each home begins, the entries, and by how much a hash is shifted to give a home
 pub record Chained : Type 0 where
-  pub heads : List ℕ
+  pub chains : List ℕ
   pub entries : List Entry
   pub shift : ℕ
 
@@ -82,10 +82,10 @@ home shift k = ((k.word * 11400714819323198485) % 2 ^ 64) / 2 ^ shift
 abbrev pub has_home : ℕ → ℕ → Key → Bool
 has_home shift h k = nat_eq (home shift k) h
 
--- the head of each home is the place of its last entry, and the next place of each entry is that of
+-- the chain of each home begins at the place of its last entry, and the next place of each entry is that of
 -- the last one before it that has the same home
-pub record IsChained (shift : ℕ) (heads : List ℕ) (entries : List Entry) : Type 0 where
-  pub head : (h : ℕ) → slice_index heads h ≡ last_with (has_home shift h) (keys_of entries)
+pub record IsChained (shift : ℕ) (chains : List ℕ) (entries : List Entry) : Type 0 where
+  pub begin : (h : ℕ) → slice_index chains h ≡ last_with (has_home shift h) (keys_of entries)
   pub next : (i : ℕ) (e : Entry) → slice_get entries i ≡ Some e →
       e.next ≡ last_with (has_home shift (home shift (key_of e))) (take i (keys_of entries))
 
@@ -94,13 +94,13 @@ abbrev pub KeysDiffer : List Key → Type 0
 KeysDiffer [] = Unit {0}
 KeysDiffer (k ∷ ks) = (last_with (same_key k) ks ≡ 0) × KeysDiffer ks
 
--- the keys differ, their entries are chained, each place fits in 32 bits, and where there are heads
+-- the keys differ, their entries are chained, each place fits in 32 bits, and where there are chains
 -- each home has one
 pub record IsTable (t : Chained) : Type 0 where
   pub shift : t.shift < 64
   pub places : length t.entries < 2 ^ 32
-  pub homes : 0 < length t.heads → (k : Key) → home t.shift k < length t.heads
-  pub chained : IsChained t.shift t.heads t.entries
+  pub homes : 0 < length t.chains → (k : Key) → home t.shift k < length t.chains
+  pub chained : IsChained t.shift t.chains t.entries
   pub differ : KeysDiffer (keys_of t.entries)
 
 -- the same keys at the same places, with the same links

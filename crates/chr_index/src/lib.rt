@@ -2,9 +2,9 @@
 //!
 //! An [`Index`] has rising labels under each of its keys. A [`Key`] is a word of 64 bits with its kind. The keys stand in
 //! entries of 20 bytes, one after another in the order in which they came. A multiplication gives the home of a key, and
-//! the entries of each home are a chain: a head of four bytes says where it begins, so that finding a key takes a look or
+//! the entries of each home are a chain: four bytes a home say where it begins, so that finding a key takes a look or
 //! two. The only label of a key stands in its entry, and where it has more they stand in a [`Bucket`], in slots of eight
-//! bytes. Where there are as many entries as heads, the keys without labels go and the heads are made anew, at least two
+//! bytes. Where there are as many entries as chains, the keys without labels go and the chains are made anew, at least two
 //! for each key that is left.
 //!
 //! [`Matches`] goes through the labels of a key, and going on from the label found last takes no search.

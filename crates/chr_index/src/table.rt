@@ -150,12 +150,12 @@ fn home(shift: u32, key: Key) -> usize
     (key.word.wrapping_mul(FACTOR) >> shift) as usize
 }
 
-/// The head of a home: the place of the last entry that has it.
+/// Where the chain of a home begins: the place of the last entry that has it.
 #[inline(always)]
-fn head(heads: &[u32], home: usize) -> u32
-    ensures { result ≡ slice_index heads.now home }
+fn begin(chains: &[u32], home: usize) -> u32
+    ensures { result ≡ slice_index chains.now home }
 {
-    match heads.get(home) {
+    match chains.get(home) {
         None => 0,
         Some(place) => *place,
     }
@@ -195,40 +195,41 @@ fn shift_for(used: usize) -> u32
         .min(GREATEST_SHIFT)
 }
 
-/// Heads of homes that no entry has. E01 where memory ran out.
-fn no_heads<A: Allocator + Copy>(alloc: A, shift: u32) -> Result<Vec<u32, A>, AllocError>
+/// The chains of homes that no entry has. E01 where memory ran out.
+fn no_chains<A: Allocator + Copy>(alloc: A, shift: u32) -> Result<Vec<u32, A>, AllocError>
     requires some { 0 < shift }
     requires within { shift < 64 }
-    ensures none { IfOk result (λ heads. (h : ℕ) → slice_index heads.items h ≡ 0) }
-    ensures homes { IfOk result (λ heads. (k : AnyKey) → home shift k < length heads.items) }
+    ensures none { IfOk result (λ chains. (h : ℕ) → slice_index chains.items h ≡ 0) }
+    ensures homes { IfOk result (λ chains. (k : AnyKey) → home shift k < length chains.items) }
 {
-    let mut heads = Vec::new(alloc);
-    heads.resize(1 << (u64::BITS - shift), 0)?;
-    Ok(heads)
+    let mut chains = Vec::new(alloc);
+    chains.resize(1 << (u64::BITS - shift), 0)?;
+    Ok(chains)
 }
 
-/// Chains the entries, where no home has a head yet.
-fn chain_all(heads: &mut [u32], entries: &mut [Entry], shift: u32)
+/// Chains the entries, where no chain has any yet.
+fn chain_all(chains: &mut [u32], entries: &mut [Entry], shift: u32)
     requires shift { shift < 64 }
-    requires none { (h : ℕ) → slice_index heads.old h ≡ 0 }
-    requires homes { (k : AnyKey) → home shift k < length heads.old }
+    requires none { (h : ℕ) → slice_index chains.old h ≡ 0 }
+    requires homes { (k : AnyKey) → home shift k < length chains.old }
     requires places { length entries.old < 2 ^ 32 }
-    ensures count { length heads.new ≡ length heads.old }
+    ensures count { length chains.new ≡ length chains.old }
     ensures entry_count { length entries.new ≡ length entries.old }
-    ensures chained { IsChained shift heads.new entries.new }
+    ensures chained { IsChained shift chains.new entries.new }
     ensures same { HasSameLinks entries.old entries.new }
 {
     for i in 0..entries.len() {
         let home = home(shift, entries[i].key());
-        entries[i].next = heads[home];
-        heads[home] = i as u32 + 1;
+        entries[i].next = chains[home];
+        chains[home] = i as u32 + 1;
     }
 }
 
-/// Keys with their links. Contracts see the heads, the entries, and the shift that gives homes.
+/// Keys with their links. Contracts see where chains begin, the entries, and the shift that gives homes.
 #[derive(Drop)]
 pub(crate) struct Table<A: Allocator> {
-    heads: Vec<u32, A>,
+    /// Where the chain of each home begins.
+    chains: Vec<u32, A>,
     entries: Vec<Entry, A>,
     shift: u32,
 }
@@ -238,9 +239,9 @@ impl<A: Allocator> Model for Table<A> {
 
     ghost Value = { Chained };
 
-    ghost view = { λ t. record { heads = t.heads.items; entries = t.entries.items; shift = t.shift } };
+    ghost view = { λ t. record { chains = t.chains.items; entries = t.entries.items; shift = t.shift } };
 
-    ghost invariant = { λ t. IsTable (record { heads = t.heads.items; entries = t.entries.items; shift = t.shift }) };
+    ghost invariant = { λ t. IsTable (record { chains = t.chains.items; entries = t.entries.items; shift = t.shift }) };
 }
 
 impl<A: Allocator + Copy> Table<A> {
@@ -249,7 +250,7 @@ impl<A: Allocator + Copy> Table<A> {
         ensures { (k : Key) → link_in result k ≡ links.Nowhere }
     {
         Table {
-            heads: Vec::new(alloc),
+            chains: Vec::new(alloc),
             entries: Vec::new(alloc),
             shift: GREATEST_SHIFT,
         }
@@ -261,7 +262,7 @@ impl<A: Allocator + Copy> Table<A> {
         ensures key { result ≡ place_of self.now key }
         ensures within { result ≤ length self.now.entries }
     {
-        let mut place = head(&self.heads, home(self.shift, key));
+        let mut place = begin(&self.chains, home(self.shift, key));
         while place != 0 {
             let entry = &self.entries[place as usize - 1];
             if entry.has_key(key) {
@@ -297,7 +298,7 @@ impl<A: Allocator + Copy> Table<A> {
     /// Links a key that has no entry. E01 where one could not be added.
     fn enter(&mut self, key: Key, link: Link) -> Result<(), AllocError>
         requires key { place_of self.old key ≡ 0 }
-        requires heads { 0 < length self.old.heads }
+        requires chains { 0 < length self.old.chains }
         ensures ok { OnOk result ((k : Key) → link_in self.new k ≡ (if same_key key k then link else link_in self.old k)) }
         ensures unchanged { OnErr result ((k : Key) → link_in self.new k ≡ link_in self.old k) }
     {
@@ -305,26 +306,27 @@ impl<A: Allocator + Copy> Table<A> {
             return Err(AllocError);
         }
         let home = home(self.shift, key);
-        self.entries.push(Entry::new(key, link, self.heads[home]))?;
-        self.heads[home] = self.entries.len() as u32;
+        self.entries.push(Entry::new(key, link, self.chains[home]))?;
+        self.chains[home] = self.entries.len() as u32;
         Ok(())
     }
 
-    /// Takes the keys without labels out and makes the heads anew, where there are as many entries as heads. E01 where memory ran out.
+    /// Takes the keys without labels out and makes the chains anew, where there are as many entries as chains. E01 where memory
+    /// ran out.
     fn make_room(&mut self, alloc: A) -> Result<(), AllocError>
-        ensures heads { OnOk result (0 < length self.new.heads) }
+        ensures chains { OnOk result (0 < length self.new.chains) }
         ensures absent { (k : Key) → place_of self.old k ≡ 0 → place_of self.new k ≡ 0 }
         ensures links { (k : Key) → link_in self.new k ≡ link_in self.old k }
     {
-        if self.entries.len() < self.heads.len() {
+        if self.entries.len() < self.chains.len() {
             return Ok(());
         }
         let shift = shift_for(count_used(&self.entries));
-        let mut heads = no_heads(alloc, shift)?;
+        let mut chains = no_chains(alloc, shift)?;
         keep_used(&mut self.entries);
-        self.entries.shrink_to(heads.len());
-        chain_all(&mut heads, &mut self.entries, shift);
-        self.heads = heads;
+        self.entries.shrink_to(chains.len());
+        chain_all(&mut chains, &mut self.entries, shift);
+        self.chains = chains;
         self.shift = shift;
         Ok(())
     }

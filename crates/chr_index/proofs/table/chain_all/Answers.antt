@@ -13,5 +13,5 @@ none = record { low = 0; high = 0; link = 0; next = 0; kind = kinds.Int; state =
 pub loop-i-preserved : goal.loop-i-preserved
 loop-i-preserved c =
     let there : c.loop-i.i < length c.loop-i.entries = omega arith in
-    let within : c.home-home.result < length c.loop-i.heads = omega (arith, c.home-home.ensures, c.requires.homes c.key.result) in
-    chained_more c.args.shift c.loop-i.i c.home-home.result c.loop-i.heads c.args.entries.now c.loop-i.entries _ _ (slice_get-get_or c.loop-i.entries c.loop-i.i none there) refl refl refl (c.home-home.ensures ∙ ap (home c.args.shift) c.key.ensures) within c.loop-i.invariant
+    let within : c.home-home.result < length c.loop-i.chains = omega (arith, c.home-home.ensures, c.requires.homes c.key.result) in
+    chained_more c.args.shift c.loop-i.i c.home-home.result c.loop-i.chains c.args.entries.now c.loop-i.entries _ _ (slice_get-get_or c.loop-i.entries c.loop-i.i none there) refl refl refl (c.home-home.ensures ∙ ap (home c.args.shift) c.key.ensures) within c.loop-i.invariant

@@ -2,4 +2,4 @@ use Rattle.chr_index.proofs.Chaining.{IsChainedUpTo}
 use Rattle.chr_index.proofs.table.chain_all.Given as goal
 
 abbrev pub invariant-loop-i : goal.invariant-loop-i
-invariant-loop-i l = IsChainedUpTo l.shift l.i l.heads l.initial.entries l.entries
+invariant-loop-i l = IsChainedUpTo l.shift l.i l.chains l.initial.entries l.entries

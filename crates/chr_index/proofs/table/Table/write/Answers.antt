@@ -11,10 +11,10 @@ index_mut-requires g c = omega (arith, ap (λ (t : Chained). length t.entries) c
 
 pub invariant_of-self : goal.invariant_of-self
 invariant_of-self g c =
-    table_rewritten c.self.inside.heads.items c.self.inside.entries.items c.self.inside.shift c.args.place c.index.result.now c.new.result c.args.self.now c.self.view_is c.args.key c.args.link
+    table_rewritten c.self.inside.chains.items c.self.inside.entries.items c.self.inside.shift c.args.place c.index.result.now c.new.result c.args.self.now c.self.view_is c.args.key c.args.link
     c.new.ensures.key c.new.ensures.link c.new.ensures.next c.requires.key c.requires.some c.index.ensures c.self.invariant
 
 pub returns : goal.returns
 returns g c =
-    links_rewritten c.self.inside.heads.items c.self.inside.entries.items c.self.inside.shift c.args.place c.index.result.now c.new.result c.args.self.now c.self.view_is c.args.key c.args.link
+    links_rewritten c.self.inside.chains.items c.self.inside.entries.items c.self.inside.shift c.args.place c.index.result.now c.new.result c.args.self.now c.self.view_is c.args.key c.args.link
     c.new.ensures.key c.new.ensures.link c.new.ensures.next c.requires.key c.requires.some c.index.ensures c.self.invariant

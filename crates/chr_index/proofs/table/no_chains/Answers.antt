@@ -2,7 +2,7 @@ use Rattle.std.proofs.Common.{◌-◌, ◌<◌, ◌^◌, arith}
 use native.Mathlib.Nat.{mod-eq_of_lt}
 use Rattle.std.proofs.lemmas.Nat.{pow_below}
 use Rattle.chr_index.proofs.Chaining.{home_below}
-use Rattle.chr_index.proofs.table.no_heads.Goals as goal
+use Rattle.chr_index.proofs.table.no_chains.Goals as goal
 
 pub returns-clause-homes : goal.returns-clause-homes
 returns-clause-homes g c = λ k.
