@@ -99,6 +99,38 @@ module _ {A : Type 0} where
   atom-pushed (Ok x) cs ds ss ts v n m a p name view = ap₂ atom name p.1 ∙ ap (λ (b : Atom ℕ). atom b.name (b.args ++ v ∷ [])) view
   atom-pushed (Err e) cs ds ss ts v n m a p name view = tt
 
+  -- values beside a copy of what they lay beside
+  value-copied : (cs ds : List (CodeComp A)) (s : Slot) → map ground_comp ds ≡ map ground_comp cs → value_in ds s ≡ value_in cs s
+  value-copied cs ds (slots.Int z) e = refl
+  value-copied cs ds (slots.Sym s) e = refl
+  value-copied cs ds (slots.Comp i) e = ap (λ (us : List (Value ℕ)). slice_index_or us i (Int (pos 0))) e
+
+  values-copied : (cs ds : List (CodeComp A)) (ss : List Slot) → map ground_comp ds ≡ map ground_comp cs → values_in ds ss ≡ values_in cs ss
+  values-copied cs ds [] e = refl
+  values-copied cs ds (s ∷ ss) e = ap₂ (λ (v : Value ℕ) vs. v ∷ vs) (value-copied cs ds s e) (values-copied cs ds ss e)
+
+  arguments-copied : (cs ds : List (CodeComp A)) (ss : List Slot) → map ground_comp ds ≡ map ground_comp cs → AreArguments cs ss → AreArguments ds ss
+  arguments-copied cs ds ss e h =
+      let count : length ds ≡ length cs = sym (length-map ds ground_comp) ∙ ap length e ∙ length-map cs ground_comp in
+      record {
+        few = h.few;
+        fewer = omega (arith, h.fewer, count);
+        places = places-longer cs ds ss (omega (arith, count)) h.places;
+        within = subst (AllByRecursion IsWithin) (sym (values-copied cs ds ss e)) h.within;
+      }
+
+  -- an atom's front with a copy of what lies beside it
+  pub beside-copied : (f : Front) (r q : Option (Box (Rest A) A)) → LieInOrder f r × AreArguments (comps_of r) (all_slots f r) → further_slots q ≡ further_slots r → map ground_comp (comps_of q) ≡ map ground_comp (comps_of r)
+      → LieInOrder f q × AreArguments (comps_of q) (all_slots f q)
+  beside-copied f r q h same comps = (
+    record {
+      arity = ap (λ (ss : List Slot). length (own_slots f ++ ss)) same ∙ h.0.arity;
+      own = h.0.own;
+      further = subst (λ (ss : List Slot). length ss ≤ f.arity - 3) (sym same) h.0.further;
+    },
+    subst (λ (ss : List Slot). AreArguments (comps_of q) (own_slots f ++ ss)) (sym same) (arguments-copied (comps_of r) (comps_of q) (all_slots f r) comps h.1),
+  )
+
   -- as many arguments as slots
   slot-count : (cs : List (CodeComp A)) (ss : List Slot) (name : ℕ) (a : Atom ℕ) → atom name (values_in cs ss) ≡ a → length a.args ≡ length ss
   slot-count cs ss name a view = sym (ap (λ (b : Atom ℕ). length b.args) view) ∙ length-map ss (value_in cs)
@@ -142,9 +174,30 @@ one-more (j ∷ []) (v ∷ ws) zero k w lt lw = refl
 one-more (j ∷ h ∷ ks) (v ∷ ws) zero k w lt lw = refl
 one-more (j ∷ ks) (v ∷ ws) (suc i) k w lt lw = ap (λ (ss : List Slot). slot_of j v ∷ ss) (one-more ks ws i k w (omega (arith, lt)) (omega (arith, lw)))
 
-pub packed-at : (ks : List Kind) (ws : List ℕ) (n i : ℕ) (d : Kind) (v : ℕ) → i < n → i < length ks → i < length ws → Some (slot_of (get_or ks i d) (get_or ws i v)) ≡ slice_get (slots_of ks (take n ws)) i
-packed-at [] ws n i d v ln lk lw = absurd (omega (arith, lk))
-packed-at (k ∷ ks) [] n i d v ln lk lw = absurd (omega (arith, lw))
-packed-at (k ∷ ks) (w ∷ ws) zero i d v ln lk lw = absurd (omega (arith, ln))
-packed-at (k ∷ ks) (w ∷ ws) (suc n) zero d v ln lk lw = refl
-packed-at (k ∷ ks) (w ∷ ws) (suc n) (suc i) d v ln lk lw = packed-at ks ws n i d v (omega (arith, ln)) (omega (arith, lk)) (omega (arith, lw))
+pub packed-at : (ks : List Kind) (ws : List ℕ) (i : ℕ) (d : Kind) (v : ℕ) → i < length ks → i < length ws → Some (slot_of (get_or ks i d) (get_or ws i v)) ≡ slice_get (slots_of ks ws) i
+packed-at [] ws i d v lk lw = absurd (omega (arith, lk))
+packed-at (k ∷ ks) [] i d v lk lw = absurd (omega (arith, lw))
+packed-at (k ∷ ks) (w ∷ ws) zero d v lk lw = refl
+packed-at (k ∷ ks) (w ∷ ws) (suc i) d v lk lw = packed-at ks ws i d v (omega (arith, lk)) (omega (arith, lw))
+
+-- the first `n` of them
+pub among-first : (ks : List Kind) (ws : List ℕ) (n i : ℕ) → i < n → slice_get (slots_of ks ws) i ≡ slice_get (slots_of ks (take n ws)) i
+among-first [] ws n i lt = refl
+among-first (k ∷ ks) ws zero i lt = absurd (omega (arith, lt))
+among-first (k ∷ ks) [] (suc n) i lt = refl
+among-first (k ∷ ks) (w ∷ ws) (suc n) zero lt = refl
+among-first (k ∷ ks) (w ∷ ws) (suc n) (suc i) lt = among-first ks ws n i (omega (arith, lt))
+
+pub first-within : (ks : List Kind) (ws : List ℕ) (n i : ℕ) → i < length (slots_of ks (take n ws)) → (i < n) × (i < length ks)
+first-within [] ws n i lt = absurd (omega (arith, lt))
+first-within (k ∷ ks) ws zero i lt = absurd (omega (arith, lt))
+first-within (k ∷ ks) [] (suc n) i lt = absurd (omega (arith, lt))
+first-within (k ∷ ks) (w ∷ ws) (suc n) zero lt = (omega arith, omega arith)
+first-within (k ∷ ks) (w ∷ ws) (suc n) (suc i) lt = let h = first-within ks ws n i (omega (arith, lt)) in (omega (arith, h.0), omega (arith, h.1))
+
+pub room-behind : (ks : List Kind) (ws : List ℕ) (n m : ℕ) → m ≤ length ks → m ≤ length ws → length (slots_of ks (take n ws)) < m → n < m
+room-behind ks ws n zero lk lw lt = absurd (omega (arith, lt))
+room-behind [] ws n (suc m) lk lw lt = absurd (omega (arith, lk))
+room-behind (k ∷ ks) [] n (suc m) lk lw lt = absurd (omega (arith, lw))
+room-behind (k ∷ ks) (w ∷ ws) zero (suc m) lk lw lt = omega arith
+room-behind (k ∷ ks) (w ∷ ws) (suc n) (suc m) lk lw lt = let h = room-behind ks ws n m (omega (arith, lk)) (omega (arith, lw)) (omega (arith, lt)) in omega (arith, h)

@@ -10,6 +10,7 @@ use Rattle.chr_value.specs.declared.slots.Slot.TheVariants as slots
 use Rattle.chr_value.specs.declared.slots.Kind.{Kind}
 use Rattle.chr_value.specs.declared.slots.Kind.TheVariants as kinds
 use Rattle.chr_value.specs.declared.slots.Front.{Front}
+use Rattle.chr_value.specs.declared.slots.Further.{Further}
 use Rattle.chr_value.specs.declared.beside.Rest.{Rest}
 
 -- a slot's kind
@@ -34,10 +35,14 @@ slots_of (k ∷ ks) (w ∷ ws) = slot_of k w ∷ slots_of ks ws
 abbrev pub own_slots : Front → List Slot
 own_slots f = slots_of f.kinds (take f.arity f.words)
 
--- the slots that lie beside it, of which there are none without a box
+-- the further ones of a box
+abbrev pub those_of : Further → List Slot
+those_of f = slots_of f.kinds (take f.count f.words)
+
+-- the slots that lie beside the atom, of which there are none without a box
 abbrev pub further_slots : {A : Type 0} → Option (Box (Rest A) A) → List Slot
 further_slots None = []
-further_slots (Some b) = b.value.slots.items
+further_slots (Some b) = those_of b.value.slots
 
 -- the compound values beside it
 abbrev pub comps_of : {A : Type 0} → Option (Box (Rest A) A) → List (CodeComp A)

@@ -3,21 +3,19 @@ ghost use Rattle.std.specs.Prelude.{◌≡◌, ◌<◌, ◌++◌, ◌∷◌, [],
 ghost use Rattle.chr_value.specs.Atoms.{ground_comp, said};
 ghost use Rattle.chr_value.specs.Slots.{further_slots, comps_of, value_in, HasPlace};
 
-use crate::atom::MOST_ARGS;
-use crate::slots::{OWN_SLOTS, Slot};
+use crate::slots::{Further, Slot};
 use crate::value::{Comp, ValueRef};
-use arrayvec::ArrayVec;
-use std::alloc::{AllocError, Allocator};
-
-/// How many slots may lie beside an atom.
-const FURTHER_SLOTS: usize = MOST_ARGS - OWN_SLOTS;
+use std::alloc::{AllocError, Allocator, Global};
 
 /// The slots from the fourth on, and the compound values of all slots.
 #[derive(Drop)]
 pub(crate) struct Rest<A: Allocator> {
-    slots: ArrayVec<Slot, FURTHER_SLOTS>,
+    slots: Further,
     comps: Vec<Comp<A>, A>,
 }
+
+// Each atom that has something beside it takes this much more.
+const _: () = prove!(size_of::<Rest<Global>>() == 72);
 
 /// What lies beside an atom. None takes no memory.
 pub(crate) type Beside<A> = Option<Box<Rest<A>, A>>;
@@ -32,7 +30,7 @@ pub(crate) fn open<A: Allocator + Copy>(beside: &mut Beside<A>, alloc: A) -> Res
         return Ok(());
     }
     let rest = Rest {
-        slots: ArrayVec::new(),
+        slots: Further::new(),
         comps: Vec::new(alloc),
     };
     *beside = Some(Box::new(alloc, rest)?);
@@ -48,7 +46,7 @@ pub(crate) fn further_at<A: Allocator>(beside: &Beside<A>, index: usize) -> Slot
     let Some(rest) = beside else {
         unreachable!();
     };
-    rest.slots.as_slice()[index]
+    rest.slots.at(index)
 }
 
 /// Adds a slot after the others that lie beside the atom.
@@ -106,19 +104,8 @@ pub(crate) fn copy_beside<A: Allocator + Copy>(
         return Ok(None);
     };
     let comps = copy_comps(&rest.comps, alloc)?;
-    let slots = copy_slots(&rest.slots);
+    let slots = rest.slots;
     Ok(Some(Box::new(alloc, Rest { slots, comps })?))
-}
-
-/// Copies of slots.
-fn copy_slots(slots: &ArrayVec<Slot, FURTHER_SLOTS>) -> ArrayVec<Slot, FURTHER_SLOTS>
-    ensures { result.items ≡ slots.now.items }
-{
-    let mut copies = ArrayVec::new();
-    for slot in slots.as_slice() {
-        copies.push(*slot);
-    }
-    copies
 }
 
 /// Copies of compound values. An `Err` is E01.
