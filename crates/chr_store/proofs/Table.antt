@@ -10,7 +10,7 @@ use Rattle.std.proofs.lemmas.Option.{slice_get-map, slice_get_past, slice_get_re
 use Rattle.chr_value.specs.Atoms.{Atom}
 use Rattle.chr_value.specs.Stores.{Store, atom_at, drop_label}
 use Rattle.chr_store.specs.Labels.{GivenAtoms, Rising, GivenBefore, IsLabelled}
-use Rattle.chr_store.specs.Table.{Held, atom_in, no_slot, held_in, entries_from, IsSlotOf, IsOwnSlot, AreApart, AreOnce, IsTable}
+use Rattle.chr_store.specs.Table.{Held, atom_in, no_slot, held_in, entries_from, IsSlotOf, IsOwnSlot, AreApart, AreOnce, IsTable, AreLinked, HasTable}
 use Rattle.std.specs.List.{AllByRecursion}
 use Rattle.chr_value.proofs.Places.{all-push}
 use Rattle.chr_index.proofs.Slots.{all_map}
@@ -374,32 +374,25 @@ apart_filled held k (s ∷ slots) there own a = (
 
 -- ---- free slots
 
-all_front : {X : Type 0} (P : X → Type 0) (xs : List X) (x : X) → AllByRecursion P (xs ++ x ∷ []) → AllByRecursion P xs × P x
-all_front P [] x h = (tt, h.0)
-all_front P (y ∷ ys) x h = (let rest = all_front P ys x h.1 in ((h.0, rest.0), rest.1))
-
 all_both : {X : Type 0} (P Q R : X → Type 0) → ((x : X) → P x → Q x → R x) → (xs : List X) → AllByRecursion P xs → AllByRecursion Q xs → AllByRecursion R xs
 all_both P Q R f [] p q = tt
 all_both P Q R f (x ∷ xs) p q = (f x p.0 q.0, all_both P Q R f xs p.1 q.1)
 
-once_front : (free : List ℕ) (k : ℕ) → AreOnce (free ++ k ∷ []) → AreOnce free × AllByRecursion (λ s. s ≢ k) free
-once_front [] k h = (tt, tt)
-once_front (f ∷ free) k h =
-    let rest = once_front free k h.1 in
-    let own = all_front (λ s. s ≢ f) free k h.0 in
-    ((own.0, rest.0), ((λ same. own.1 (sym same)), rest.1))
+module _ (old new : Held) (k : ℕ) (others : (other : ℕ) → other ≢ k → atom_in new other ≡ atom_in old other) where
+  -- the free slots but this one stay linked
+  linked_same : (first : ℕ) (free : List ℕ) → AllByRecursion (λ s. s ≢ k) free → AreLinked old first free → AreLinked new first free
+  linked_same first [] h l = l
+  linked_same first (s ∷ free) h l = (l.0, l.1, others s h.0 ∙ l.2, linked_same (l.1).name free h.1 l.3)
 
-once_push : (free : List ℕ) (k : ℕ) → AreOnce free → AllByRecursion (λ s. s ≢ k) free → AreOnce (free ++ k ∷ [])
-once_push [] k h own = (tt, tt)
-once_push (f ∷ free) k h own = (all-push (λ s. s ≢ f) free k h.0 (λ same. own.0 (sym same)), once_push free k h.1 own.1)
-
-pub all_there : (held : Held) (free slots : List ℕ) → IsTable held free slots → AllByRecursion (λ slot. slot < length held) free
-all_there held free slots t = all_map (λ slot. IsOwnSlot held slot slots) (λ slot. slot < length held) free (λ slot o. o.there) t.unused
+-- the first free slot is there
+pub first_there : (held : Held) (first : ℕ) (free slots : List ℕ) → IsTable held free slots → AreLinked held first free → first ≢ no_slot → first < length held
+first_there held first [] slots t l is = absurd (is l)
+first_there held first (s ∷ free) slots t l is = subst (λ n. n < length held) (sym l.0) t.unused.0.there
 
 -- ---- an atom more, in a slot that no label had
 
 -- the atoms once it is put there, with the slots that are still free
-pub record IsFilled (old new : Held) (free left slots : List ℕ) (k : ℕ) (a : Atom ℕ) : Type 0 where
+pub record IsFilled (old new : Held) (free left slots : List ℕ) (next k : ℕ) (a : Atom ℕ) : Type 0 where
   pub there : atom_in new k ≡ Some a
   pub others : (other : ℕ) → other ≢ k → atom_in new other ≡ atom_in old other
   pub more : length old ≤ length new
@@ -409,6 +402,7 @@ pub record IsFilled (old new : Held) (free left slots : List ℕ) (k : ℕ) (a :
   pub unused : AllByRecursion (λ slot. IsOwnSlot old slot slots) left
   pub differ : AllByRecursion (λ s. s ≢ k) left
   pub once : AreOnce left
+  pub linked : AreLinked new next left
 
 set_at : (xs : Held) (k : ℕ) (a : Atom ℕ) → k < length xs → slice_get (slice_set xs k a) k ≡ Some a
 set_at xs k a lt = slice_get_read (slice_set xs k a) (length (slice_set xs k a)) k a refl (omega (arith, lt, length-set xs k a)) (sym (get_or-set_same xs k a a lt))
@@ -431,24 +425,24 @@ pushed_elsewhere (x ∷ xs) zero a d = refl
 pushed_elsewhere (x ∷ xs) (suc other) a d = pushed_elsewhere xs other a (λ e. d (ap suc e))
 
 module _ (old : Held) (slots : List ℕ) (a : Atom ℕ) where
-  filled_again : (left : List ℕ) (k : ℕ) → IsTable old (left ++ k ∷ []) slots → IsFilled old (slice_set old k a) (left ++ k ∷ []) left slots k a
-  filled_again left k t =
-      let unused = all_front (λ slot. IsOwnSlot old slot slots) left k t.unused in
-      let once = once_front left k t.once in
+  filled_again : (left : List ℕ) (next k : ℕ) → IsTable old (k ∷ left) slots → AreLinked old next left → IsFilled old (slice_set old k a) (k ∷ left) left slots next k a
+  filled_again left next k t linked =
       let size = length-set old k a in
+      let others : (other : ℕ) → other ≢ k → atom_in (slice_set old k a) other ≡ atom_in old other = λ other d. set_elsewhere old k other a d in
       record {
-        there = set_at old k a unused.1.there;
-        others = λ other d. set_elsewhere old k other a d;
+        there = set_at old k a t.unused.0.there;
+        others = others;
         more = omega (arith, size);
-        counted = omega (arith, size, length-append left (k ∷ []));
+        counted = omega (arith, size);
         fits = omega (arith, size, t.fits);
-        own = unused.1.own;
-        unused = unused.0;
-        differ = once.1;
-        once = once.0;
+        own = t.unused.0.own;
+        unused = t.unused.1;
+        differ = t.once.0;
+        once = t.once.1;
+        linked = linked_same old (slice_set old k a) k others next left t.once.0 linked;
       }
 
-  filled_more : length slots < no_slot → IsTable old [] slots → IsFilled old (old ++ a ∷ []) [] [] slots (length old) a
+  filled_more : length slots < no_slot → IsTable old [] slots → IsFilled old (old ++ a ∷ []) [] [] slots no_slot (length old) a
   filled_more room t =
       let size = length-append old (a ∷ []) in
       let all : length old < no_slot = omega (arith, room, t.counted, at_most 1 (held_in old slots), length-map slots (atom_in old)) in
@@ -462,40 +456,43 @@ module _ (old : Held) (slots : List ℕ) (a : Atom ℕ) where
         unused = tt;
         differ = tt;
         once = tt;
+        linked = refl;
       }
 
-  none_of : (free : List ℕ) → length free ≡ 0 → free ≡ []
-  none_of [] e = refl
-  none_of (f ∷ free) e = absurd (omega (arith, e))
-
   -- whether a slot was free or not
-  pub filled_by : (new : Held) (free left : List ℕ) (k : ℕ) → length slots < no_slot → IsTable old free slots
-      → (1 ≤ length free → (free ≡ left ++ k ∷ []) × (new ≡ slice_set old k a))
-      → (length free ≡ 0 → (left ≡ []) × (k ≡ length old) × (new ≡ old ++ a ∷ []))
-      → IsFilled old new free left slots k a
-  filled_by new free left k room t again more = elim (cases_eq (length free) 0) [
-    | inl e ↦ let w = more e in let none = none_of free e in
-        subst (λ n. IsFilled old n free left slots k a) (sym w.2) (subst (λ i. IsFilled old (old ++ a ∷ []) free left slots i a) (sym w.1)
-        (subst (λ l. IsFilled old (old ++ a ∷ []) free l slots (length old) a) (sym w.0) (subst (λ f. IsFilled old (old ++ a ∷ []) f [] slots (length old) a) (sym none) (filled_more room (subst (λ f. IsTable old f slots) none t)))))
-    | inr d ↦ let w = again (omega arith) in
-        subst (λ n. IsFilled old n free left slots k a) (sym w.1) (subst (λ f. IsFilled old (slice_set old k a) f left slots k a) (sym w.0) (filled_again left k (subst (λ f. IsTable old f slots) w.0 t)))
-  ]
+  pub filled_by : (new : Held) (free : List ℕ) (first next k : ℕ) → length slots < no_slot → IsTable old free slots → AreLinked old first free
+      → (first ≢ no_slot → (k ≡ first) × (new ≡ slice_set old k a))
+      → ((empty : Atom ℕ) → atom_in old first ≡ Some empty → next ≡ empty.name)
+      → (first ≡ no_slot → (next ≡ no_slot) × (k ≡ length old) × (new ≡ old ++ a ∷ []))
+      → IsFilled old new free (drop 1 free) slots next k a
+  filled_by new [] first next k room t linked again follows more =
+      let w = more linked in
+      subst (λ n. IsFilled old n [] [] slots next k a) (sym w.2) (subst (λ i. IsFilled old (old ++ a ∷ []) [] [] slots next i a) (sym w.1)
+      (subst (λ n. IsFilled old (old ++ a ∷ []) [] [] slots n (length old) a) (sym w.0) (filled_more room t)))
+  filled_by new (slot ∷ left) first next k room t linked again follows more =
+      let w = again (λ none. not_there old slot t.fits t.unused.0.there (sym none ∙ linked.0)) in
+      let is : slot ≡ k = sym (w.0 ∙ linked.0) in
+      let follow : next ≡ (linked.1).name = follows linked.1 (ap (atom_in old) linked.0 ∙ linked.2) in
+      subst (λ s. IsFilled old new (s ∷ left) left slots next k a) (sym is) (subst (λ n. IsFilled old n (k ∷ left) left slots next k a) (sym w.1)
+      (filled_again left next k (subst (λ s. IsTable old (s ∷ left) slots) is t) (subst (λ n. AreLinked old n left) (sym follow) linked.3)))
 
--- and without the atom of a slot, which is free then
-pub record IsEmptied (old new : Held) (k : ℕ) (a : Atom ℕ) : Type 0 where
+-- and with an empty atom in place of that of a slot, which is free then
+pub record IsEmptied (old new : Held) (k : ℕ) (a empty : Atom ℕ) : Type 0 where
   pub there : atom_in old k ≡ Some a
   pub others : (other : ℕ) → other ≢ k → atom_in new other ≡ atom_in old other
+  pub left : atom_in new k ≡ Some empty
   pub same : length new ≡ length old
 
-pub emptied_by : (old : Held) (k : ℕ) (a empty : Atom ℕ) → k < length old → a ≡ get_or old k a → IsEmptied old (slice_set old k empty) k a
+pub emptied_by : (old : Held) (k : ℕ) (a empty : Atom ℕ) → k < length old → a ≡ get_or old k a → IsEmptied old (slice_set old k empty) k a empty
 emptied_by old k a empty lt read = record {
   there = slice_get_read old (length old) k a refl lt read;
   others = λ other d. set_elsewhere old k other empty d;
+  left = set_at old k empty lt;
   same = length-set old k empty;
 }
 
 module _ (old new : Held) (free slots : List ℕ) (t : IsTable old free slots) where
-  module _ (left : List ℕ) (k : ℕ) (a : Atom ℕ) (f : IsFilled old new free left slots k a) where
+  module _ (left : List ℕ) (next k : ℕ) (a : Atom ℕ) (f : IsFilled old new free left slots next k a) where
     same : held_in new slots ≡ held_in old slots
     same = held_same old new k f.others slots f.own
 
@@ -505,7 +502,7 @@ module _ (old new : Held) (free slots : List ℕ) (t : IsTable old free slots) w
     pub filled : table_of new (slots ++ k ∷ []) ≡ with_atom a (table_of old slots)
     filled = with_some new slots k a f.there ∙ ap (λ xs. with_atom a (given (entries_from 1 xs) (length slots + 1))) same
 
-    pub filled_table : length slots + 1 ≤ 4294967295 → IsTable new left (slots ++ k ∷ [])
+    filled_table : length slots + 1 ≤ 4294967295 → IsTable new left (slots ++ k ∷ [])
     filled_table h = record {
       counted = (let more = ap (λ (s : GivenAtoms). length s.entries) filled in omega (arith, t.counted, more, f.counted, length-append (entries_from 1 (held_in old slots)) ((length slots + 1, a) ∷ [])));
       within = omega (arith, length-append slots (k ∷ []));
@@ -517,13 +514,21 @@ module _ (old new : Held) (free slots : List ℕ) (t : IsTable old free slots) w
       once = f.once;
     }
 
+    pub filled_all : (number : ℕ) → number ≡ length (entries_from 1 (held_in old slots)) → length slots + 1 ≤ 4294967295 → HasTable new next (number + 1) (slots ++ k ∷ [])
+    filled_all number count h = record {
+      free = left;
+      table = filled_table h;
+      linked = f.linked;
+      count = (let more = ap (λ (s : GivenAtoms). length s.entries) filled in omega (arith, count, more, length-append (entries_from 1 (held_in old slots)) ((length slots + 1, a) ∷ [])));
+    }
+
     pub filled_counts : (ns : List ℕ) (i n : ℕ) → AreCounts (held_in old slots) ns → length slots + 1 < 64 * length ns → i ≡ (length slots + 1) / 64 → n ≡ get_or ns i n → AreCounts (held_in new (slots ++ k ∷ [])) (slice_set ns i (n + 1))
     filled_counts ns i n h room at read =
         let size = length-map slots (atom_in old) in
         subst (λ xs. AreCounts xs (slice_set ns i (n + 1))) (sym filled_held)
         (rw (read ∙ get_or_default_zero ns i n (omega arith)) (counts_filled (held_in old slots) ns a i h (omega arith) (omega arith)))
 
-  module _ (k i : ℕ) (a : Atom ℕ) (e : IsEmptied old new k a) (slot : slice_get slots i ≡ Some k) where
+  module _ (k i : ℕ) (a empty : Atom ℕ) (e : IsEmptied old new k a empty) (slot : slice_get slots i ≡ Some k) where
     no_less : length old ≤ length new
     no_less = omega (arith, e.same)
 
@@ -586,21 +591,36 @@ module _ (old new : Held) (free slots : List ℕ) (t : IsTable old free slots) w
         label_is : 1 ≤ l
         label_is = elim (cases_eq l 0) [ inl z ↦ absurd (let u : 4294967295 ≤ i = at.none z in omega (arith, inside, t.within)) | inr d ↦ omega arith ]
 
-    -- so not all slots were free
-    pub some_used : length free < length old
-    some_used = omega (arith, t.counted, fewer 1 i (held_in old slots) a there)
+    -- so there was one
+    less : length (entries_from 1 (held_in new (slice_set slots i no_slot))) + 1 ≡ length (entries_from 1 (held_in old slots))
+    less = omega (arith, ap (λ xs. length (entries_from 1 xs)) all_emptied.held, fewer 1 i (held_in old slots) a there)
 
-    pub emptied_table : IsTable new (free ++ k ∷ []) (slice_set slots i no_slot)
+    pub some_there : 1 ≤ length (entries_from 1 (held_in old slots))
+    some_there = omega (arith, less)
+
+    differ : AllByRecursion (λ s. s ≢ k) free
+    differ = all_map (λ s. IsOwnSlot old s slots) (λ s. s ≢ k) free (λ s o same. all_at (λ other. other ≢ s) slots i k slot o.own (sym same)) t.unused
+
+    emptied_table : IsTable new (k ∷ free) (slice_set slots i no_slot)
     emptied_table = record {
-      counted = omega (arith, e.same, t.counted, ap (λ xs. length (entries_from 1 xs)) all_emptied.held, fewer 1 i (held_in old slots) a there, length-append free (k ∷ []));
+      counted = omega (arith, e.same, t.counted, less);
       within = omega (arith, t.within, length-set slots i no_slot);
       fits = omega (arith, e.same, t.fits);
       apart = all_emptied.apart;
-      unused = all-push (λ s. IsOwnSlot new s (slice_set slots i no_slot)) free k
-          (all_map (λ s. IsOwnSlot old s slots) (λ s. IsOwnSlot new s (slice_set slots i no_slot)) free
-          (λ s o. record { there = still_there old new no_less s o.there; own = all_set (λ other. other ≢ s) slots i no_slot (not_there old s t.fits o.there) o.own }) t.unused)
-          (record { there = still_there old new no_less k (slice_get_within old k a e.there); own = all_emptied.own });
-      once = once_push free k t.once (all_map (λ s. IsOwnSlot old s slots) (λ s. s ≢ k) free (λ s o same. all_at (λ other. other ≢ s) slots i k slot o.own (sym same)) t.unused);
+      unused = (
+        record { there = still_there old new no_less k (slice_get_within old k a e.there); own = all_emptied.own },
+        all_map (λ s. IsOwnSlot old s slots) (λ s. IsOwnSlot new s (slice_set slots i no_slot)) free
+            (λ s o. record { there = still_there old new no_less s o.there; own = all_set (λ other. other ≢ s) slots i no_slot (not_there old s t.fits o.there) o.own }) t.unused,
+      );
+      once = (differ, t.once);
+    }
+
+    pub emptied_all : (first number : ℕ) → empty.name ≡ first → AreLinked old first free → number ≡ length (entries_from 1 (held_in old slots)) → HasTable new k (number - 1) (slice_set slots i no_slot)
+    emptied_all first number name linked count = record {
+      free = k ∷ free;
+      table = emptied_table;
+      linked = (refl, empty, e.left, subst (λ n. AreLinked new n free) (sym name) (linked_same old new k e.others first free differ linked));
+      count = omega (arith, count, less);
     }
 
     module _ (ns : List ℕ) (n : ℕ) (h : AreCounts (held_in old slots) ns) (read : n ≡ get_or ns ((i + 1) / 64) n) where
@@ -624,7 +644,7 @@ module _ (held : Held) (free slots : List ℕ) (t : IsTable held free slots) whe
   pub skipped : table_of held (slots ++ no_slot ∷ []) ≡ without_atom (table_of held slots)
   skipped = with_none held slots no_slot (none_past held t.fits)
 
-  pub skipped_table : length slots + 1 ≤ 4294967295 → IsTable held free (slots ++ no_slot ∷ [])
+  skipped_table : length slots + 1 ≤ 4294967295 → IsTable held free (slots ++ no_slot ∷ [])
   skipped_table h = record {
     counted = ap (λ (s : GivenAtoms). length s.entries + length free) skipped ∙ t.counted;
     within = omega (arith, length-append slots (no_slot ∷ []));
@@ -633,6 +653,14 @@ module _ (held : Held) (free slots : List ℕ) (t : IsTable held free slots) whe
     unused = all_map (λ s. IsOwnSlot held s slots) (λ s. IsOwnSlot held s (slots ++ no_slot ∷ [])) free
         (λ s o. record { there = o.there; own = all-push (λ other. other ≢ s) slots no_slot o.own (not_there held s t.fits o.there) }) t.unused;
     once = t.once;
+  }
+
+  pub skipped_all : (first number : ℕ) → AreLinked held first free → number ≡ length (entries_from 1 (held_in held slots)) → length slots + 1 ≤ 4294967295 → HasTable held first number (slots ++ no_slot ∷ [])
+  skipped_all first number linked count h = record {
+    free = free;
+    table = skipped_table h;
+    linked = linked;
+    count = count ∙ sym (ap (λ (s : GivenAtoms). length s.entries) skipped);
   }
 
   pub skipped_counts : (ns : List ℕ) → AreCounts (held_in held slots) ns → length slots + 1 < 64 * length ns → AreCounts (held_in held (slots ++ no_slot ∷ [])) ns

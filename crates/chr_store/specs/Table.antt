@@ -13,7 +13,7 @@ Held = List (Atom ℕ)
 abbrev pub atom_in : Held → ℕ → Option (Atom ℕ)
 atom_in held slot = slice_get held slot
 
--- the slot of a label that has no atom
+-- the slot of a label that has no atom, to which the last free slot is linked
 abbrev pub no_slot : ℕ
 no_slot = 4294967295
 
@@ -56,6 +56,19 @@ pub record IsTable (held : Held) (free slots : List ℕ) : Type 0 where
   pub apart : AreApart held slots
   pub unused : AllByRecursion (λ slot. IsOwnSlot held slot slots) free
   pub once : AreOnce free
+
+-- the free slots, each linked to the next by the name of the atom in it
+abbrev pub AreLinked : Held → ℕ → List ℕ → Type 0
+AreLinked held first [] = first ≡ no_slot
+AreLinked held first (slot ∷ free) =
+    (first ≡ slot) × (atom : Atom ℕ) × (atom_in held slot ≡ Some atom) × AreLinked held atom.name free
+
+-- a table whose free slots are linked from this first one on, with this number of atoms
+pub record HasTable (held : Held) (first number : ℕ) (slots : List ℕ) : Type 0 where
+  pub free : List ℕ
+  pub table : IsTable held free slots
+  pub linked : AreLinked held first free
+  pub count : number ≡ length (entries_from 1 (held_in held slots))
 
 -- the label and the atom that an item shows
 abbrev pub shown : ℕ × Bor (Atom ℕ) → ℕ × Atom ℕ

@@ -1,7 +1,6 @@
 //! Atoms under labels that are given in order.
-ghost use Rattle.std.specs.Prelude.{◌≡◌, ◌+◌, ◌*◌, ◌<◌, ◌≤◌, ◌++◌, ◌∷◌, [], ℕ, length, slice_index, slice_set, vec_len, vec_capacity, IfOk, OnOk, OnErr};
+ghost use Rattle.std.specs.Prelude.{◌≡◌, ◌≢◌, ◌+◌, ◌*◌, ◌<◌, ◌≤◌, ◌++◌, ◌∷◌, [], ℕ, length, slice_index, slice_set, vec_len, vec_capacity, IfOk, OnOk, OnErr};
 ghost use Rattle.std.specs.Option.{option_copied};
-ghost use Rattle.std.specs.List.{AllByRecursion};
 ghost use Rattle.std.specs.Iterator.{item_count};
 ghost use Rattle.std.specs.Map.Iter.{TakesFirst};
 ghost use Rattle.chr_value.specs.Stores.{atom_at, drop_label, greatest_label};
@@ -13,7 +12,7 @@ use std::alloc::{AllocError, Allocator};
 use std::marker::Model;
 use std::mem;
 
-/// The slot of a label that has no atom.
+/// The slot of a label that has no atom. The last free slot is linked to it.
 const NO_SLOT: u32 = u32::MAX;
 
 /// How many labels, one after another, are counted together.
@@ -24,10 +23,13 @@ const BLOCK: usize = 64;
 /// the label that comes next.
 #[derive(Drop)]
 pub struct Atoms<A: Allocator> {
-    /// The atoms, each in a slot of its own. A free slot has an atom without arguments.
+    /// The atoms, each in a slot of its own. A free slot has an atom without arguments, whose name is the number of the next
+    /// free slot, or [`NO_SLOT`] in the last: so the free slots take no memory of their own.
     held: Vec<Atom<A>, A>,
-    /// The slots that are free. It has room for all slots, so that taking an atom out takes no memory.
-    free: Vec<u32, A>,
+    /// The first free slot, or [`NO_SLOT`].
+    free: u32,
+    /// How many atoms there are.
+    len: usize,
     /// The slot of each label that was given, from 1 on, or [`NO_SLOT`].
     slots: Vec<u32, A>,
     /// How many atoms each block of labels has.
@@ -35,10 +37,10 @@ pub struct Atoms<A: Allocator> {
 }
 
 impl<A: Allocator> Model for Atoms<A> {
-    ghost use Rattle.std.specs.Prelude.{◌+◌, ◌≤◌, length, vec_capacity};
+    ghost use Rattle.std.specs.Prelude.{◌+◌, length};
     ghost use Rattle.chr_value.specs.Code.{value_codes};
     ghost use Rattle.chr_store.specs.Labels.{GivenAtoms};
-    ghost use Rattle.chr_store.specs.Table.{entries_from, held_in, IsTable};
+    ghost use Rattle.chr_store.specs.Table.{entries_from, held_in, HasTable};
     ghost use Rattle.chr_store.specs.Blocks.{AreCounts};
 
     ghost Value = { GivenAtoms };
@@ -47,7 +49,7 @@ impl<A: Allocator> Model for Atoms<A> {
 
     ghost view = { λ a. record { entries = entries_from 1 (held_in a.held.items a.slots.items); next = length a.slots.items + 1 } };
 
-    ghost invariant = { λ a. IsTable a.held.items a.free.items a.slots.items × (length a.held.items ≤ vec_capacity a.free) × AreCounts (held_in a.held.items a.slots.items) a.counts.items };
+    ghost invariant = { λ a. HasTable a.held.items a.free a.len a.slots.items × AreCounts (held_in a.held.items a.slots.items) a.counts.items };
 }
 
 /// The index of a label's slot. That of 0, which is no label, is above all others.
@@ -67,38 +69,32 @@ fn atom_of_slot<A: Allocator>(held: &[Atom<A>], slot: u32) -> Option<&Atom<A>>
 }
 
 /// Makes room for an atom, in one slot more where none is free. An `Err` is E01.
-fn reserve_slot<A: Allocator>(
-    held: &mut Vec<Atom<A>, A>,
-    free: &mut Vec<u32, A>,
-) -> Result<(), AllocError>
-    requires all { length held.old.items ≤ vec_capacity free.old }
+fn reserve_slot<A: Allocator>(held: &mut Vec<Atom<A>, A>, free: u32) -> Result<(), AllocError>
     ensures held { held.new.items ≡ held.old.items }
-    ensures free { free.new.items ≡ free.old.items }
-    ensures all { length held.old.items ≤ vec_capacity free.new }
-    ensures place { OnOk result (length free.old.items ≡ 0 → vec_len held.new < vec_capacity held.new) }
-    ensures more { OnOk result (length free.old.items ≡ 0 → length held.old.items < vec_capacity free.new) }
+    ensures place { OnOk result (free ≡ no_slot → vec_len held.new < vec_capacity held.new) }
 {
-    if !free.is_empty() {
+    if free != NO_SLOT {
         return Ok(());
     }
-    free.reserve(held.len() + 1)?;
     held.reserve(1)
 }
 
-/// Puts an atom into a free slot, or into one slot more where none is free, and tells which. There is room for it.
-fn fill_slot<A: Allocator>(held: &mut Vec<Atom<A>, A>, free: &mut Vec<u32, A>, atom: Atom<A>) -> u32
-    requires there { AllByRecursion (λ slot. slot < length held.old.items) free.old.items }
+/// Puts an atom into the first free slot, or into one slot more where none is free, and tells which. There is room for it.
+fn fill_slot<A: Allocator + Copy>(held: &mut Vec<Atom<A>, A>, free: &mut u32, atom: Atom<A>) -> u32
+    requires there { free.old ≢ no_slot → free.old < length held.old.items }
     requires fits { length held.old.items ≤ no_slot }
-    requires place { length free.old.items ≡ 0 → vec_len held.old < vec_capacity held.old }
-    ensures again { 1 ≤ length free.old.items → (free.old.items ≡ free.new.items ++ result ∷ []) × (held.new.items ≡ slice_set held.old.items result atom) }
-    ensures more { length free.old.items ≡ 0 → (free.new.items ≡ []) × (result ≡ length held.old.items) × (held.new.items ≡ held.old.items ++ atom ∷ []) }
-    ensures capacity { vec_capacity free.new ≡ vec_capacity free.old }
+    requires place { free.old ≡ no_slot → vec_len held.old < vec_capacity held.old }
+    ensures again { free.old ≢ no_slot → (result ≡ free.old) × (held.new.items ≡ slice_set held.old.items result atom) }
+    ensures next { (empty : Atom ℕ) → atom_in held.old.items free.old ≡ Some empty → free.new ≡ empty.name }
+    ensures more { free.old ≡ no_slot → (free.new ≡ no_slot) × (result ≡ length held.old.items) × (held.new.items ≡ held.old.items ++ atom ∷ []) }
 {
-    let Some(slot) = free.pop() else {
+    if *free == NO_SLOT {
         let slot = held.len() as u32;
         held.push_reserved(atom);
         return slot;
-    };
+    }
+    let slot = *free;
+    *free = held[slot as usize].name().number;
     held[slot as usize] = atom;
     slot
 }
@@ -157,7 +153,8 @@ impl<A: Allocator + Copy> Atoms<A> {
     {
         Atoms {
             held: Vec::new(alloc),
-            free: Vec::new(alloc),
+            free: NO_SLOT,
+            len: 0,
             slots: Vec::new(alloc),
             counts: Vec::new(alloc),
         }
@@ -167,7 +164,7 @@ impl<A: Allocator + Copy> Atoms<A> {
     pub fn len(&self) -> usize
         ensures { result ≡ length self.now.entries }
     {
-        self.held.len() - self.free.len()
+        self.len
     }
 
     /// The label that [`push_copy`](Atoms::push_copy) gives next.
@@ -184,12 +181,13 @@ impl<A: Allocator + Copy> Atoms<A> {
         ensures unchanged { OnErr result (self.new ≡ self.old) }
     {
         make_room(&mut self.slots, &mut self.counts)?;
-        reserve_slot(&mut self.held, &mut self.free)?;
+        reserve_slot(&mut self.held, self.free)?;
         let copied = atom.copy(*self.slots.allocator())?;
         // Where no slot is free, each has the atom of a label, so the number of the next is below NO_SLOT.
         let slot = fill_slot(&mut self.held, &mut self.free, copied);
         self.counts[(self.slots.len() + 1) / BLOCK] += 1;
         self.slots.push_reserved(slot);
+        self.len += 1;
         Ok(())
     }
 
@@ -228,9 +226,10 @@ impl<A: Allocator + Copy> Atoms<A> {
         if slot == NO_SLOT {
             return None;
         }
-        let empty = Atom::new(*self.slots.allocator(), Name { number: 0 });
+        let empty = Atom::new(*self.slots.allocator(), Name { number: self.free });
         let atom = mem::replace(&mut self.held[slot as usize], empty);
-        self.free.push_reserved(slot);
+        self.free = slot;
+        self.len -= 1;
         self.slots[index] = NO_SLOT;
         self.counts[(index + 1) / BLOCK] -= 1;
         Some(atom)
@@ -256,7 +255,8 @@ impl<A: Allocator + Copy> Atoms<A> {
     {
         let mut made = Atoms {
             held: Vec::with_capacity(alloc, self.len())?,
-            free: Vec::with_capacity(alloc, self.len())?,
+            free: NO_SLOT,
+            len: 0,
             slots: Vec::with_capacity(alloc, self.slots.len())?,
             counts: Vec::with_capacity(alloc, self.counts.len())?,
         };

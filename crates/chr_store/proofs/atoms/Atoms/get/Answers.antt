@@ -10,7 +10,7 @@ looked : (g : Over) (c : After-get g) → atom_at c.args.self.now.entries c.args
 looked g c =
     let i = c.self.inside in
     let here = ap (λ xs. slice_get xs c.index_of.result) (sym c.deref.ensures.value) ∙ looked_at c.deref.result.now c.index_of.result c.get.result c.get.ensures.lookup in
-    ap (λ (s : GivenAtoms). atom_at s.entries c.args.label) (sym c.self.view_is) ∙ seen i.held.items i.free.items i.slots.items c.self.invariant.0 c.args.label c.index_of.result c.index_of.ensures ∙ ap (seen_in i.held.items) here
+    ap (λ (s : GivenAtoms). atom_at s.entries c.args.label) (sym c.self.view_is) ∙ seen i.held.items c.self.invariant.0.free i.slots.items c.self.invariant.0.table c.args.label c.index_of.result c.index_of.ensures ∙ ap (seen_in i.held.items) here
 
 pub returns-in_default : goal.returns-in_default
 returns-in_default g c = sym (looked g (goal.at.returns-in_default g c).After-get ∙ ap (λ r. seen_in c.self.inside.held.items (option_copied r)) c.in_default.is)

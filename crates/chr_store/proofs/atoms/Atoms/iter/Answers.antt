@@ -8,5 +8,5 @@ use Rattle.chr_store.proofs.atoms.Atoms.iter.Goals as goal
 pub returns-clause-fits : goal.returns-clause-fits
 returns-clause-fits g c =
     let i = c.self.inside in
-    let empty : AreEmptyAtNone 1 (held_in i.held.items c.deref.result.now) c.deref-2.result.now = rw (c.deref.ensures.value, c.deref-2.ensures.value) (empty_at_none (held_in i.held.items i.slots.items) i.counts.items c.self.invariant.2) in
-    rw (c.deref-3.ensures.value, c.past_empty-label.ensures.same i.held.items empty, c.deref.ensures.value) (omega (arith, at_most 1 (held_in i.held.items i.slots.items), length-map i.slots.items (atom_in i.held.items), c.self.invariant.0.within))
+    let empty : AreEmptyAtNone 1 (held_in i.held.items c.deref.result.now) c.deref-2.result.now = rw (c.deref.ensures.value, c.deref-2.ensures.value) (empty_at_none (held_in i.held.items i.slots.items) i.counts.items c.self.invariant.1) in
+    rw (c.deref-3.ensures.value, c.past_empty-label.ensures.same i.held.items empty, c.deref.ensures.value) (omega (arith, at_most 1 (held_in i.held.items i.slots.items), length-map i.slots.items (atom_in i.held.items), c.self.invariant.0.table.within))
