@@ -33,7 +33,7 @@ impl<A: Allocator + Copy> Ran<A> {
     /// The same bytes, and the run is let go. Its log goes before they are made where they are those of the store alone, so
     /// that there is never memory for both at once. An `Err` is E01.
     pub fn into_shown(self, alloc: A, show: Show) -> Result<Vec<u8, A>, AllocError>
-        ensures { IfOk result (λ bytes. bytes.items ≡ shown show self.entry.end self.entry.book) }
+        ensures { IfOk result (λ bytes. bytes.items ≡ shown show self.end self.book) }
     {
         match show {
             Show::Store => {
