@@ -17,7 +17,6 @@ use Rattle.chr_rule.specs.contracts.expression.BodyItem as BodyItem
 use Rattle.chr_rule.specs.contracts.rule.Rule as Rule
 use Rattle.chr_rule.specs.contracts.program.Program as Program
 use Rattle.chr_store.specs.contracts.atoms.Atoms as Atoms
-use Rattle.chr_store.specs.contracts.atoms.Atoms.TheInside as InsideAtoms
 use Rattle.chr_store.specs.contracts.store.Store as Store
 use Rattle.chr_store.specs.contracts.store.Store.TheInside as InsideStore
 use Rattle.chr_search.specs.contracts.trial.Placed as Placed
@@ -32,7 +31,6 @@ use Rattle.chr_value.proofs.value.Value.TheLaws.TheKnot as value
 use Rattle.chr_value.proofs.names.Names.TheSendSync as names
 use Rattle.chr_plan.proofs.plans.Plans.TheSendSync as plans
 use Rattle.chr_store.proofs.buckets.Buckets.TheSendSync as buckets
-use Rattle.slab.proofs.Slab.TheSendSync as slabs
 use Rattle.chr_tickets.specs.contracts.ticket.Ticket as Ticket
 use Rattle.chr_tickets.specs.contracts.tickets.Tickets as Tickets
 use Rattle.chr_book.specs.contracts.book.Book as Book
@@ -100,10 +98,7 @@ module _ (A : RattleType) (g : Ghosts A.Denot) where
       fields-send (Placed.the_type A g) (search sendable, (search sendable, (search (basis, a) fits 5000 depth 40, tt)))
 
   Atoms-send : IsSend A → Frees g g.dealloc_token → IsSend (Atoms.the_row A g)
-  Atoms-send s f =
-      let held = slabs.the_send (Atom.the_row A g) A g (Atom-send s f) s f in
-      let i = fields-send (InsideAtoms.the_type A g) (search (basis, held) fits 5000 depth 40, (search basis fits 5000 depth 40, (search basis fits 5000 depth 40, tt))) in
-      search (basis, i) fits 5000 depth 40
+  Atoms-send s f = search (basis, Atom-send) fits 5000 depth 40
 
   pub Store-send : IsSend A → Frees g g.dealloc_token → IsSend (Store.the_row A g)
   Store-send s f =
