@@ -3,7 +3,7 @@
 # takes, for three programs at two sizes each, ten times apart: a chain of firings over two constraints, the primes up to a
 # number, and a union-find of so many elements. Run it by hand, on an idle machine.
 # The time is the best of five runs with `--show store`, less the best of five that make no calls; the memory is the most
-# that such a run had at once, the median of five, less that of one that makes no calls. So store and tickets count as bytes
+# that such a run had at once, the median of 21, less that of one that makes no calls. So store and tickets count as bytes
 # of the entries; next to it stands what the entries take by themselves.
 # Then it prints how many bytes a live constraint takes, with its labels in the indexes: the memory of a run that keeps its
 # constraints, less that of one that takes each out at once, for constraints with no key, with one, and with two.
@@ -48,13 +48,13 @@ items() {
   echo "build($1)." >&3
 }
 
-# Prints the kilobytes of the most memory that a run of at most so many calls has at once: the median of five runs, since the
+# Prints the kilobytes of the most memory that a run of at most so many calls has at once: the median of 21 runs, since the
 # system counts pages in lots.
 memory() {
-  for _ in 1 2 3 4 5; do
+  for _ in $(seq 21); do
     /usr/bin/time -q -f %M -o "$work/memory" "$program" run "$work/rules" "$work/posts" --steps "$1" --show store >"$work/store" || [ $? = 3 ]
     cat "$work/memory"
-  done | sort -n | sed -n 3p
+  done | sort -n | sed -n 11p
 }
 
 # Prints the nanoseconds of the fastest of five runs of at most so many calls, and the kilobytes of memory.
