@@ -1,5 +1,6 @@
 pub mod Lists
 pub mod Next
+pub mod Fresh
 pub mod Planning
 pub mod Made
 pub mod OnePlan

@@ -1,5 +1,5 @@
 -- What a slice has at an index, and plans by their numbers.
-use Rattle.std.proofs.Common.{◌≡◌, ℕ, zero, suc, ◌+◌, ◌-◌, ◌<◌, Bool, true, false, not, cond, replicate, ltb, List, [], ◌∷◌, ◌++◌, map, length, Option, Some, None, position, slice_index_or, slice_get, refl, sym, ap, ◌∙◌, arith, ◌⊎◌, inl, inr}
+use Rattle.std.proofs.Common.{◌≡◌, ℕ, zero, suc, ◌+◌, ◌-◌, ◌<◌, Bool, true, false, not, cond, replicate, ltb, List, [], ◌∷◌, ◌++◌, map, length, Option, Some, None, position, slice_index_or, slice_get, refl, sym, ap, ◌∙◌, arith, ◌⊎◌, inl}
 use Rattle.std.specs.List.{prefix_len}
 use Rattle.std.specs.Option.{option_map}
 use Rattle.std.proofs.lemmas.Bool.{ltb-true, ltb-false}

@@ -1,11 +1,11 @@
 -- A plan while it grows.
-use Rattle.std.proofs.Common.{◌≡◌, ℕ, zero, suc, ◌+◌, ◌<◌, ◌≤◌, Bool, true, false, ◌==◌, ◌||◌, if◌then◌else◌, List, [], ◌∷◌, ◌++◌, length, None, refl, sym, ap, subst, ◌∙◌, arith, append_assoc, length-append, true-eqb}
+use Rattle.std.proofs.Common.{◌≡◌, ℕ, zero, suc, ◌+◌, ◌<◌, ◌≤◌, Bool, false, ◌==◌, ◌||◌, if◌then◌else◌, List, [], ◌∷◌, ◌++◌, length, refl, sym, ap, subst, ◌∙◌, arith, append_assoc, length-append}
 use Rattle.std.specs.List.{list_any}
 use Rattle.std.proofs.lemmas.Bool.Decides.{nat_tests}
 use Rattle.std.proofs.lemmas.List.{append-nil}
 use Rattle.std.proofs.lemmas.List.Folds.{list_any-append}
 use Rattle.chr_rule.specs.Rules.{RuleAtom}
-use Rattle.chr_plan.specs.Orders.{head_in, binds, is_bound, is_named, IsOpen, IsNext, EachNext, IsPlan}
+use Rattle.chr_plan.specs.Orders.{head_in, binds, is_bound, is_named, IsOpen, IsNext, EachNext, first_step, IsPlan}
 use Rattle.chr_plan.specs.declared.order.Step.{Step}
 
 -- how many of the first n heads are open
@@ -31,13 +31,10 @@ opens_all : (n : ℕ) → opens n [] ≡ n
 opens_all zero = refl
 opens_all (suc n) = omega (arith, opens_all n)
 
-abbrev pub start : ℕ → Step
-start h = record { head = h; key = None }
-
 pub record Planning (heads : List (RuleAtom ℕ)) (h : ℕ) (bound : ℕ → Bool) (order : List Step) : Type 0 where
   pub rest : List Step
-  pub first : order ≡ start h ∷ rest
-  pub next : EachNext heads (start h ∷ []) rest
+  pub first : order ≡ first_step heads h ∷ rest
+  pub next : EachNext heads (first_step heads h ∷ []) rest
   pub count : length order + opens (length heads) order ≡ length heads
   pub agrees : (x : ℕ) → bound x ≡ is_bound heads order x
 
@@ -45,12 +42,12 @@ each_push : (heads : List (RuleAtom ℕ)) (before steps : List Step) (s : Step) 
 each_push heads before [] s e n = (subst (λ (b : List Step). IsNext heads b s) (append-nil before) n, tt)
 each_push heads before (t ∷ steps) s e n = (e.0, each_push heads (before ++ t ∷ []) steps s e.1 (subst (λ (b : List Step). IsNext heads b s) (sym (append_assoc before (t ∷ []) steps)) n))
 
-pub planning_start : (heads : List (RuleAtom ℕ)) (h : ℕ) (bound : ℕ → Bool) → 1 ≤ h → h ≤ length heads → ((x : ℕ) → bound x ≡ (binds (head_in heads h) x || false)) → Planning heads h bound (start h ∷ [])
+pub planning_start : (heads : List (RuleAtom ℕ)) (h : ℕ) (bound : ℕ → Bool) → 1 ≤ h → h ≤ length heads → ((x : ℕ) → bound x ≡ (binds (head_in heads h) x || false)) → Planning heads h bound (first_step heads h ∷ [])
 planning_start heads h bound f t b = record {
   rest = [];
   first = refl;
   next = tt;
-  count = (let one = opens_push (length heads) [] (start h) refl f t in let all = opens_all (length heads) in omega (arith, one, all));
+  count = (let one = opens_push (length heads) [] (first_step heads h) refl f t in let all = opens_all (length heads) in omega (arith, one, all));
   agrees = b;
 }
 
@@ -58,7 +55,7 @@ pub planning_push : (heads : List (RuleAtom ℕ)) (h : ℕ) (old new : ℕ → B
 planning_push heads h old new order s p n b = record {
   rest = p.rest ++ s ∷ [];
   first = ap (λ (z : List Step). z ++ s ∷ []) p.first;
-  next = each_push heads (start h ∷ []) p.rest s p.next (subst (λ (z : List Step). IsNext heads z s) p.first n);
+  next = each_push heads (first_step heads h ∷ []) p.rest s p.next (subst (λ (z : List Step). IsNext heads z s) p.first n);
   count = (let one = opens_push (length heads) order s n.open_head.unnamed n.open_head.from n.open_head.to in let c = p.count in let l = length-append order (s ∷ []) in omega (arith, one, c, l));
   agrees = λ x. b x ∙ ap (λ v. binds (head_in heads s.head) x || v) (p.agrees x) ∙ sym (any_push (λ t. binds (head_in heads t.head) x) order s);
 }

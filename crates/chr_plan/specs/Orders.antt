@@ -1,5 +1,5 @@
 -- The order in which the heads of a rule are tried, beginning with one of them.
-use Rattle.std.specs.Prelude.{◌≡◌, ℕ, ◌+◌, ◌≤◌, Bool, true, false, ◌==◌, ◌||◌, is_some, position, List, [], ◌∷◌, ◌++◌, length, Option, Some, None, IsSome}
+use Rattle.std.specs.Prelude.{◌≡◌, ℕ, ◌+◌, ◌≤◌, Bool, true, false, ◌==◌, ◌||◌, ◌&&◌, not, suc, is_some, position, List, [], ◌∷◌, ◌++◌, length, Option, Some, None, IsSome}
 use Rattle.std.specs.List.{list_any}
 use Rattle.std.specs.Option.{option_map}
 use Rattle.chr_rule.specs.Rules.{Term, Var, Given, Open, Terms, End, And, RuleAtom}
@@ -47,17 +47,44 @@ key_of heads before j = key_in (is_bound heads before) (head_in heads j)
 abbrev pub is_named : List Step → ℕ → Bool
 is_named before j = list_any (λ s. s.head == j) before
 
+-- a variable that isn't bound
+abbrev pub is_new : (ℕ → Bool) → Term ℕ → Bool
+is_new bound (Var x) = not (bound x)
+is_new bound (Given v) = false
+is_new bound (Open s ts) = false
+
+-- whether a place is the key's
+abbrev pub is_key : Option ℕ → ℕ → Bool
+is_key None i = false
+is_key (Some place) i = place == i
+
+-- whether arguments, from a place on, are variables that are new there, but for the one at the
+-- key's place: none is bound or stands before it
+abbrev pub are_new : (ℕ → Bool) → Option ℕ → ℕ → List (Term ℕ) → Bool
+are_new bound key i [] = true
+are_new bound key i (t ∷ ts) =
+    (is_key key i || is_new bound t) && are_new (λ x. stands_in x t || bound x) key (suc i) ts
+
+abbrev pub fresh_in : (ℕ → Bool) → Option (RuleAtom ℕ) → Option ℕ → Bool
+fresh_in bound None key = false
+fresh_in bound (Some head) key = are_new bound key 1 head.args
+
+-- whether the arguments of a head but its key are new after these steps
+abbrev pub fresh_of : List (RuleAtom ℕ) → List Step → ℕ → Option ℕ → Bool
+fresh_of heads before j key = fresh_in (is_bound heads before) (head_in heads j) key
+
 -- a head that no step names yet
 pub record IsOpen (heads : List (RuleAtom ℕ)) (before : List Step) (j : ℕ) : Type 0 where
   pub from : 1 ≤ j
   pub to : j ≤ length heads
   pub unnamed : is_named before j ≡ false
 
--- the next step: an open head with its key, one that has a key before those that have none, and
--- then the least number
+-- the next step: an open head with its key and whether its other arguments are new, one that has a
+-- key before those that have none, and then the least number
 pub record IsNext (heads : List (RuleAtom ℕ)) (before : List Step) (step : Step) : Type 0 where
   pub open_head : IsOpen heads before step.head
   pub key : step.key ≡ key_of heads before step.head
+  pub fresh : step.fresh ≡ fresh_of heads before step.head step.key
   pub keyed : (j : ℕ) → IsOpen heads before j → IsSome (key_of heads before j) → IsSome step.key
   pub least : (j : ℕ) → IsOpen heads before j → is_some (key_of heads before j) ≡ is_some step.key →
       step.head ≤ j
@@ -67,9 +94,13 @@ abbrev pub EachNext : List (RuleAtom ℕ) → List Step → List Step → Type 0
 EachNext heads before [] = Unit {0}
 EachNext heads before (s ∷ steps) = IsNext heads before s × EachNext heads (before ++ s ∷ []) steps
 
+-- the first step of a head's plan
+abbrev pub first_step : List (RuleAtom ℕ) → ℕ → Step
+first_step heads h = record { head = h; key = None; fresh = fresh_of heads [] h None }
+
 -- the plan of a head: that head without a key, then each time the next, until no head is open
 pub record IsPlan (heads : List (RuleAtom ℕ)) (h : ℕ) (order : List Step) : Type 0 where
   pub rest : List Step
-  pub first : order ≡ record { head = h; key = None } ∷ rest
-  pub next : EachNext heads (record { head = h; key = None } ∷ []) rest
+  pub first : order ≡ first_step heads h ∷ rest
+  pub next : EachNext heads (first_step heads h ∷ []) rest
   pub all : (j : ℕ) → IsOpen heads order j → ⊥

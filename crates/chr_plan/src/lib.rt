@@ -4,7 +4,9 @@
 //! with that head. Then, until every head is named, comes the least-numbered open head that has an argument whose
 //! value is known by then, with the first place of such an argument as its key; where there is none, the least-numbered
 //! open head, without a key. Known are terms without variables, and the variables of the heads before; a functor with a
-//! variable in it never is. So a partner with a key can be looked up by a predicate and one value.
+//! variable in it never is. So a partner with a key can be looked up by a predicate and one value. A step also tells
+//! whether all other arguments of its head are variables that come up there first, each once: a partner that is found
+//! by the key then fits, whatever its other values.
 //!
 //! [`places`](Plans::places) lists what the plans look up, so that a store can keep an index for each.
 //!

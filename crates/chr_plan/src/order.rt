@@ -2,22 +2,28 @@
 ghost use Rattle.std.specs.Prelude.{◌≡◌, ℕ, ◌≤◌, ◌||◌, false, length, map, position, MatchOption, slice_index_or};
 ghost use Rattle.chr_rule.specs.Rules.{heads_of, head_at};
 ghost use Rattle.chr_rule.specs.Parts.{argument};
-ghost use Rattle.chr_plan.specs.Orders.{stands_in, has_variable, binds, is_bound, is_known, key_in, is_named, IsOpen, IsNext, IsPlan};
+ghost use Rattle.chr_plan.specs.Orders.{stands_in, has_variable, binds, is_bound, is_known, key_in, is_new, is_key, are_new, fresh_in, is_named, IsOpen, IsNext, IsPlan};
 
 use arrayvec::ArrayVec;
 use chr_rule::{Rule, Term};
 use std::alloc::Allocator;
 
-/// A head by its number, and the place of its first argument whose value is known by then. Places are numbered from 1.
+/// A head by its number, the place of its first argument whose value is known by then, and whether its other arguments are
+/// variables that come up there first, each once. Places are numbered from 1.
 #[derive(Clone, Copy, Debug, PartialEq, Eq)]
 pub struct Step {
     pub head: u8,
     pub key: Option<u8>,
+    pub fresh: bool,
 }
 
 impl Default for Step {
     fn default() -> Self {
-        Step { head: 0, key: None }
+        Step {
+            head: 0,
+            key: None,
+            fresh: false,
+        }
     }
 }
 
@@ -99,6 +105,55 @@ fn bind<A: Allocator>(rule: &Rule<A>, number: u8, bound: &mut BoundVariables)
     }
 }
 
+/// Whether a term is a variable that isn't bound.
+fn is_new<A: Allocator>(term: &Term<A>, bound: &BoundVariables) -> bool
+    ensures { result ≡ is_new (λ x. slice_index_or bound.now x false) (argument term.now) }
+{
+    match term {
+        Term::Var(x) => !bound[usize::from(*x)],
+        Term::Given(_) | Term::Open(_) => false,
+    }
+}
+
+/// Whether a place is the key's.
+fn is_key(key: Option<u8>, place: usize) -> bool
+    ensures { result ≡ is_key key place }
+{
+    match key {
+        Some(key) => usize::from(key) == place,
+        None => false,
+    }
+}
+
+/// Whether these terms, but the one at the key's place, are variables that aren't bound, each once.
+fn are_new<A: Allocator>(terms: &[Term<A>], key: Option<u8>, bound_before: &BoundVariables) -> bool
+    ensures { result ≡ are_new (λ x. slice_index_or bound_before.now x false) key 1 (map argument terms.now) }
+{
+    let mut bound = *bound_before;
+    for (at, term) in terms.iter().enumerate() {
+        if !is_key(key, at + 1) && !is_new(term, &bound) {
+            return false;
+        }
+        bind_term(term, &mut bound);
+    }
+    true
+}
+
+/// Whether the arguments of a head but its key are variables that aren't bound, each once.
+fn is_fresh<A: Allocator>(
+    rule: &Rule<A>,
+    number: u8,
+    key: Option<u8>,
+    bound: &BoundVariables,
+) -> bool
+    ensures { result ≡ fresh_in (λ x. slice_index_or bound.now x false) (head_at rule.now number) key }
+{
+    match rule.head(usize::from(number)) {
+        Some(pattern) => are_new(&pattern.terms, key, bound),
+        None => false,
+    }
+}
+
 /// The next step: the least open head with a key, else the least open head. None where no head is open.
 fn next_step<A: Allocator>(rule: &Rule<A>, before: &[Step], bound: &BoundVariables) -> Option<Step>
     requires { (x : ℕ) → slice_index_or bound.now x false ≡ is_bound (heads_of rule.now) before.now x }
@@ -110,7 +165,12 @@ fn next_step<A: Allocator>(rule: &Rule<A>, before: &[Step], bound: &BoundVariabl
         let number = at as u8 + 1;
         if !is_named(before, number) {
             let key = key(rule, number, bound);
-            let step = Step { head: number, key };
+            let fresh = is_fresh(rule, number, key, bound);
+            let step = Step {
+                head: number,
+                key,
+                fresh,
+            };
             if key.is_some() {
                 return Some(step);
             }
@@ -128,7 +188,12 @@ pub(crate) fn plan_of<A: Allocator>(rule: &Rule<A>, head: u8) -> Order
 {
     let mut order = ArrayVec::new();
     let mut bound = nothing_bound();
-    order.push(Step { head, key: None });
+    let fresh = is_fresh(rule, head, None, &bound);
+    order.push(Step {
+        head,
+        key: None,
+        fresh,
+    });
     bind(rule, head, &mut bound);
     while let Some(step) = next_step(rule, order.as_slice(), &bound) {
         order.push(step);

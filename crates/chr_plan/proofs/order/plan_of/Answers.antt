@@ -1,14 +1,18 @@
-use Rattle.std.proofs.Common.{◌≡◌, ℕ, ◌+◌, ◌<◌, ◌≤◌, ◌||◌, ◌++◌, ◌∷◌, [], false, ap, sym, subst, ◌∙◌, List, None, length, slice_index_or, arith}
-use Rattle.chr_plan.specs.Orders.{heads_of, head_in, binds, IsNext}
+use Rattle.std.proofs.Common.{◌≡◌, ℕ, ◌+◌, ◌<◌, ◌≤◌, ◌||◌, ◌++◌, ◌∷◌, [], Bool, false, ap, ap₂, sym, subst, ◌∙◌, List, None, length, slice_index_or, arith}
+use Rattle.chr_plan.specs.Orders.{heads_of, head_in, binds, IsNext, first_step}
 use Rattle.chr_plan.specs.declared.order.Step.{Step}
 use Rattle.chr_plan.proofs.Planning.{Planning, planning_start, planning_push, planning_room}
+use Rattle.chr_plan.proofs.Next.{same_fresh}
 use Rattle.chr_plan.proofs.order.plan_of.Goals as goal
 
 pub loop-step-init : goal.loop-step-init
 loop-step-init g c =
     let heads = heads_of c.args.rule.now in
     let bound = λ (x : ℕ). slice_index_or c.bind.new.bound x false in
-    subst (Planning heads c.args.head bound) (sym (c.push.ensures.items ∙ ap (λ (z : List Step). z ++ record { head = c.args.head; key = None } ∷ []) c.new-order.ensures))
+    let fresh = c.is_fresh-fresh.ensures ∙ same_fresh heads [] (λ x. slice_index_or c.nothing_bound-bound.result x false) c.args.head None c.nothing_bound-bound.ensures in
+    let first : c.push.new.self.items ≡ first_step heads c.args.head ∷ [] =
+    c.push.ensures.items ∙ ap₂ (λ (z : List Step) (b : Bool). z ++ record { head = c.args.head; key = None; fresh = b } ∷ []) c.new-order.ensures fresh in
+    subst (Planning heads c.args.head bound) (sym first)
     (planning_start heads c.args.head bound c.requires.from c.requires.to (λ x. c.bind.ensures x ∙ ap (λ b. binds (head_in heads c.args.head) x || b) (c.nothing_bound-bound.ensures x)))
 
 pub push-requires-in-Some : goal.push-requires-in-Some
