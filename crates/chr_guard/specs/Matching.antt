@@ -1,13 +1,33 @@
 -- When a rule's heads are atoms, and which body it then adds.
-use Rattle.std.specs.Prelude.{◌≡◌, ◌↔◌, ◌<◌, ℕ, ◌++◌, Bool, true, false, List, length, Option, Some}
+use Rattle.std.specs.Prelude.{◌≡◌, ◌↔◌, ◌<◌, ℕ, ◌++◌, Bool, true, false, List, [], ◌∷◌, length}
+use Rattle.std.specs.Prelude.{Option, Some, None, ◌⊎◌, slice_set}
 use Rattle.std.specs.List.{AllByRecursion}
 use Rattle.std.specs.Option.{option_map}
 use Rattle.chr_value.specs.Atoms.{Value, Atom}
-use Rattle.chr_rule.specs.Rules.{Simpagation, head_at}
+use Rattle.chr_rule.specs.Rules.{Term, Var, Given, Open, Simpagation, head_at}
 use Rattle.chr_rule.specs.Scope.{known_after_heads}
 use Rattle.chr_guard.specs.Values.{Valuation}
 use Rattle.chr_guard.specs.Bindings.{bound_at, Extends, Narrows}
 use Rattle.chr_guard.specs.Instances.{atom_under, AreUnder, AreMadeUnder, IsRight, added, IsInstance, NoInstance}
+
+-- a binding once a term stands for a value
+abbrev pub with_term : List (Option (Value ℕ)) → Term ℕ → Value ℕ → List (Option (Value ℕ))
+with_term binding (Var x) a = slice_set binding x (Some a)
+with_term binding (Given b) a = binding
+with_term binding (Open s ts) a = binding
+
+-- a term is a variable that is free, or stands for the value already
+abbrev pub TakesValue : List (Option (Value ℕ)) → Term ℕ → Value ℕ → Type 0
+TakesValue binding (Var x) a = (bound_at binding x ≡ None) ⊎ (bound_at binding x ≡ Some a)
+TakesValue binding (Given b) a = b ≡ a
+TakesValue binding (Open s ts) a = ⊥
+
+-- the same of terms, one after another
+abbrev pub TakeValues : List (Option (Value ℕ)) → List (Term ℕ) → List (Value ℕ) → Type 0
+TakeValues binding [] [] = Unit {0}
+TakeValues binding (t ∷ ts) (a ∷ as') =
+    TakesValue binding t a × TakeValues (with_term binding t a) ts as'
+TakeValues binding _ _ = ⊥
 
 -- under the valuation the head of that number is that atom
 abbrev pub IsAtHead : Simpagation ℕ → Valuation → ℕ × Atom ℕ → Type 0

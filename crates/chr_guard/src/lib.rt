@@ -15,7 +15,7 @@
 //! [`MOST_SIZE`](chr_value::MOST_SIZE). Such values are counted, and none is made to be counted or compared.
 //!
 //! Who tries one atom after another at a head has one binding for all of them: it notes which variables are [`Known`], and
-//! returns the binding to these.
+//! returns the binding to these, and where an index found the atoms, it may bind without a comparison, by [`bind_partner`].
 //!
 //! A [`Settled`] is what is kept of a binding where the atoms can't be borrowed on: numbers, symbols, and where compound
 //! values stand. Where there are none of these, it gives the very same binding.
@@ -35,6 +35,6 @@ mod terms;
 mod values;
 
 pub use binding::{Binding, Bound, Known};
-pub use matching::{fit, fit_head, fit_partner};
+pub use matching::{bind_partner, fit, fit_head, fit_partner};
 pub use settled::Settled;
 pub use values::{holds, value};

@@ -5,9 +5,9 @@ ghost use Rattle.chr_value.specs.Atoms.{ground, said};
 ghost use Rattle.chr_rule.specs.Parts.{argument, shape};
 ghost use Rattle.chr_rule.specs.Scope.{argument_known};
 ghost use Rattle.chr_guard.specs.Values.{term_under};
-ghost use Rattle.chr_guard.specs.Bindings.{Keeps, NarrowsIf};
+ghost use Rattle.chr_guard.specs.Bindings.{Keeps, Narrows, NarrowsIf};
 ghost use Rattle.chr_guard.specs.Instances.{atom_under};
-ghost use Rattle.chr_guard.specs.Matching.{AreAtHeads, HeadsAre, IsFit};
+ghost use Rattle.chr_guard.specs.Matching.{AreAtHeads, HeadsAre, IsFit, TakeValues};
 
 use crate::binding::Binding;
 use chr_rule::{Rule, RuleAtom, Term};
@@ -148,6 +148,78 @@ pub fn fit_partner<'v, A: Allocator + Copy>(
     ensures keeps { Keeps binding.old binding.new }
 {
     fit_args(binding, &head.terms, atom)
+}
+
+/// Binds the variables among the arguments of a head, each of which is a free variable, or stands for the atom's argument
+/// already. The atom has them all in itself where `are_own` says so.
+#[inline(always)]
+fn bind_each<'v, A: Allocator + Copy>(
+    binding: &mut Binding<'v, A>,
+    terms: &[Term<A>],
+    atom: &'v Atom<A>,
+    are_own: bool,
+)
+    requires known { list_all (argument_known (length binding.old)) (map argument terms.now) ≡ true }
+    requires own { are_own ≡ true → length terms.now ≤ 3 }
+    requires values { TakeValues binding.old (map argument terms.now) atom.now.args }
+    ensures narrows { Narrows (λ v. map (term_under v) (map argument terms.now) ≡ map (λ t. Some t) atom.now.args) binding.old binding.new }
+    ensures keeps { Keeps binding.old binding.new }
+{
+    for i in 0..terms.len() {
+        if let Term::Var(x) = &terms[i] {
+            binding.put(*x, arg_of(atom, i, are_own));
+        }
+    }
+}
+
+/// The same for many arguments, which takes a call.
+fn bind_many<'v, A: Allocator + Copy>(
+    binding: &mut Binding<'v, A>,
+    terms: &[Term<A>],
+    atom: &'v Atom<A>,
+)
+    requires known { list_all (argument_known (length binding.old)) (map argument terms.now) ≡ true }
+    requires values { TakeValues binding.old (map argument terms.now) atom.now.args }
+    ensures narrows { Narrows (λ v. map (term_under v) (map argument terms.now) ≡ map (λ t. Some t) atom.now.args) binding.old binding.new }
+    ensures keeps { Keeps binding.old binding.new }
+{
+    bind_each(binding, terms, atom, false)
+}
+
+/// The same for any arguments. Most atoms have few, which lie in them.
+#[inline(always)]
+fn bind_args<'v, A: Allocator + Copy>(
+    binding: &mut Binding<'v, A>,
+    terms: &[Term<A>],
+    atom: &'v Atom<A>,
+)
+    requires known { list_all (argument_known (length binding.old)) (map argument terms.now) ≡ true }
+    requires values { TakeValues binding.old (map argument terms.now) atom.now.args }
+    ensures narrows { Narrows (λ v. map (term_under v) (map argument terms.now) ≡ map (λ t. Some t) atom.now.args) binding.old binding.new }
+    ensures keeps { Keeps binding.old binding.new }
+{
+    if terms.len() <= OWN_ARGS {
+        bind_each(binding, terms, atom, true)
+    } else {
+        bind_many(binding, terms, atom)
+    }
+}
+
+/// Extends a binding so that a head equals an atom of its predicate, where each of the head's arguments is a free variable, or
+/// stands for the atom's argument already. It compares nothing.
+#[inline(always)]
+pub fn bind_partner<'v, A: Allocator + Copy>(
+    binding: &mut Binding<'v, A>,
+    head: &RuleAtom<A>,
+    atom: &'v Atom<A>,
+)
+    requires known { list_all (argument_known (length binding.old)) (shape head.now).args ≡ true }
+    requires name { (shape head.now).name ≡ atom.now.name }
+    requires values { TakeValues binding.old (shape head.now).args atom.now.args }
+    ensures narrows { Narrows (λ v. atom_under v (shape head.now) ≡ Some atom.now) binding.old binding.new }
+    ensures keeps { Keeps binding.old binding.new }
+{
+    bind_args(binding, &head.terms, atom)
 }
 
 /// Extends a binding so that a head equals an atom. False only where no valuation that extends it makes them equal.
