@@ -6,7 +6,7 @@ ghost use Rattle.chr_enumeration.specs.Found.{listed};
 ghost use Rattle.chr_enumeration.specs.Picks.{picks, picked, IsOpen, AllPicked, Fills, HeadIs, IsPartial, IsMatch, NoMatch};
 
 use chr_guard::instance::instance_from;
-use chr_guard::{Binding, Bound, fit_head};
+use chr_guard::{Binding, fit_head};
 use chr_log::{Label, Labels};
 use chr_rule::{Rule, RuleAtom, Term};
 use chr_value::Atom;
@@ -42,7 +42,7 @@ fn is_joined<A: Allocator + Copy>(head: &RuleAtom<A>, binding: &Binding<'_, A>) 
             Term::Given(_) => return true,
             Term::Open(_) => {}
             Term::Var(x) => match binding.at(*x) {
-                Bound::Free => {}
+                None => {}
                 _ => return true,
             },
         }

@@ -3,11 +3,10 @@
 ghost use Rattle.std.specs.Prelude.{◌≡◌, ◌++◌, ◌∷◌, ◌≤◌, [], length, map, Some, OnOk, codes, slice_get};
 ghost use Rattle.std.specs.Option.{option_map};
 ghost use Rattle.std.specs.Fmt.{decimal};
-ghost use Rattle.chr_value.specs.Atoms.{by_texts};
+ghost use Rattle.chr_value.specs.Atoms.{by_texts, said};
 ghost use Rattle.chr_value.specs.Spelling.{spell};
 ghost use Rattle.chr_limits.specs.Variables.{is_blank};
 ghost use Rattle.chr_limits.specs.Views.{names as texts};
-ghost use Rattle.chr_guard.specs.Bindings.{bound_term};
 ghost use Rattle.chr_log.specs.Events.{event_of, events_of};
 ghost use Rattle.chr_explain.specs.Headings.{heading_view};
 ghost use Rattle.chr_explain.specs.Reasons.{reason_of};
@@ -15,9 +14,9 @@ ghost use Rattle.chr_explain.specs.Lines.{recorded_view, entry_words, head_words
 
 use crate::headings::Heading;
 use crate::reasons::Reason;
-use chr_guard::{Binding, Bound};
+use chr_guard::Binding;
 use chr_log::{Event, Label};
-use chr_value::{Names, put_number, write_atom, write_value};
+use chr_value::{Names, ValueRef, put_number, write_atom, write_value};
 use std::alloc::{AllocError, Allocator};
 
 /// What lines are written from: the names, the rules' headings, and the log.
@@ -113,11 +112,11 @@ fn put_variable<A: Allocator + Copy, C: Allocator>(
     out: &mut Vec<u8, C>,
     names: &Names<A>,
     name: &[u8],
-    bound: Bound<'_, A>,
+    bound: Option<ValueRef<'_, A>>,
 ) -> Result<(), AllocError>
-    ensures { OnOk result (out.new.items ≡ out.old.items ++ variable_words names.now name.now (bound_term bound.entry)) }
+    ensures { OnOk result (out.new.items ≡ out.old.items ++ variable_words names.now name.now (option_map said bound.entry)) }
 {
-    let Some(value) = bound.value() else {
+    let Some(value) = bound else {
         return Ok(());
     };
     if name == b"_".as_slice() {

@@ -1,6 +1,6 @@
 -- Bindings and the valuations that extend them.
 use Rattle.chr_guard.proofs.Under.{some_is_some}
-use Rattle.std.proofs.Common.{◌≡◌, ◌≢◌, ◌↔◌, ℕ, zero, suc, ◌+◌, ◌<◌, ◌≤◌, Bool, true, false, IsTrue, ◌==◌, if◌then◌else◌, List, [], ◌∷◌, length, take, replicate, Option, Some, None, IsSome, ◌⊎◌, inl, inr, refl, sym, subst, ap, ap₂, ◌∙◌, arith, slice_index_or, slice_set, get_or-set_same, get_or-set_other, length-set}
+use Rattle.std.proofs.Common.{◌≡◌, ◌≢◌, ◌↔◌, ℕ, pos, zero, suc, ◌+◌, ◌<◌, ◌≤◌, Bool, true, false, IsTrue, ◌==◌, if◌then◌else◌, List, [], ◌∷◌, length, take, replicate, Option, Some, None, IsSome, ◌⊎◌, inl, inr, refl, sym, subst, ap, ap₂, ◌∙◌, arith, slice_index_or, slice_set, get_or-set_same, get_or-set_other, length-set}
 use Rattle.std.proofs.lemmas.Grind.{common_steps}
 use Rattle.std.specs.List.{refill}
 use Rattle.std.specs.Int.{bit_at}
@@ -8,114 +8,120 @@ use Rattle.std.proofs.lemmas.List.{length-take-le, length-replicate, take_at, ex
 use Rattle.std.proofs.lemmas.Nat.Bits.{bit_at-zero}
 use Rattle.std.proofs.lemmas.Bool.{cases_eq}
 use Rattle.std.proofs.lemmas.Bool.Decides.{nat_tests}
-use Rattle.chr_value.specs.Atoms.{Value}
-use Rattle.chr_guard.specs.declared.binding.Bound.{Bound}
-use Rattle.chr_guard.specs.declared.binding.Bound.TheVariants as bounds
+use Rattle.chr_value.specs.Atoms.{Value, said}
+use Rattle.chr_value.specs.declared.value.ValueRef.{ValueRef}
+use Rattle.chr_value.specs.declared.value.ValueRef.TheVariants as refs
 use Rattle.chr_guard.specs.Values.{Valuation}
-use Rattle.chr_guard.specs.Bindings.{bound_term, bound_at, told, told_from, AreBoundBy, Extends, Keeps, Narrows, NoneUnder, NarrowsIf}
+use Rattle.chr_guard.specs.Bindings.{bound_at, told, told_from, AreBoundBy, Extends, Keeps, Narrows, NoneUnder, NarrowsIf}
+
+-- a place without a value that says anything
+abbrev pub filler : {A : Type 0} → ValueRef A
+filler = refs.Int (pos 0)
 
 -- the bits and the places of the variables say what each is bound to
-taken_from : {A : Type 0} (bits n from x : ℕ) (places : List (Bound A)) → ((y : ℕ) → n ≤ y → bit_at bits (from + y) ≡ 0) → bound_at (take n (told_from bits from places)) x ≡ told (bit_at bits (from + x)) (slice_index_or places x bounds.Free)
-taken_from bits zero from x places behind = ap (λ b. told b (slice_index_or places x bounds.Free)) (sym (behind x (omega arith)))
-taken_from bits (suc n) from x [] behind = grind arith
-taken_from bits (suc n) from zero (b ∷ places) behind = let here : from ≡ from + 0 = omega arith in ap (λ y. told (bit_at bits y) b) here
-taken_from bits (suc n) from (suc x) (b ∷ places) behind =
+taken_from : {A : Type 0} (bits n from x : ℕ) (places : List (ValueRef A)) → n ≤ length places → ((y : ℕ) → n ≤ y → bit_at bits (from + y) ≡ 0) → bound_at (take n (told_from bits from places)) x ≡ told (bit_at bits (from + x)) (slice_index_or places x filler)
+taken_from bits zero from x places within behind = ap (λ b. told b (slice_index_or places x filler)) (sym (behind x (omega arith)))
+taken_from bits (suc n) from x [] within behind = absurd (omega (arith, within))
+taken_from bits (suc n) from zero (b ∷ places) within behind = let here : from ≡ from + 0 = omega arith in ap (λ y. told (bit_at bits y) b) here
+taken_from bits (suc n) from (suc x) (b ∷ places) within behind =
     let next : (y : ℕ) → suc from + y ≡ from + suc y = λ y. omega arith in
-    taken_from bits n (suc from) x places (λ y le. ap (bit_at bits) (next y) ∙ behind (suc y) (omega (arith, le))) ∙ ap (λ y. told (bit_at bits y) (slice_index_or places x bounds.Free)) (next x)
+    taken_from bits n (suc from) x places (omega (arith, within)) (λ y le. ap (bit_at bits) (next y) ∙ behind (suc y) (omega (arith, le))) ∙ ap (λ y. told (bit_at bits y) (slice_index_or places x filler)) (next x)
 
-pub at_taken : {A : Type 0} (bits n : ℕ) (places : List (Bound A)) → ((y : ℕ) → n ≤ y → bit_at bits y ≡ 0) → (x : ℕ) → bound_at (take n (told_from bits 0 places)) x ≡ told (bit_at bits x) (slice_index_or places x bounds.Free)
-at_taken bits n places behind x =
+pub at_taken : {A : Type 0} (bits n : ℕ) (places : List (ValueRef A)) → n ≤ length places → ((y : ℕ) → n ≤ y → bit_at bits y ≡ 0) → (x : ℕ) → bound_at (take n (told_from bits 0 places)) x ≡ told (bit_at bits x) (slice_index_or places x filler)
+at_taken bits n places within behind x =
     let plain : (y : ℕ) → 0 + y ≡ y = λ y. omega arith in
-    taken_from bits n 0 x places (λ y le. ap (bit_at bits) (plain y) ∙ behind y le) ∙ ap (λ y. told (bit_at bits y) (slice_index_or places x bounds.Free)) (plain x)
+    taken_from bits n 0 x places within (λ y le. ap (bit_at bits) (plain y) ∙ behind y le) ∙ ap (λ y. told (bit_at bits y) (slice_index_or places x filler)) (plain x)
 
-pub length-told : {A : Type 0} (bits from : ℕ) (places : List (Bound A)) → length (told_from bits from places) ≡ length places
+pub length-told : {A : Type 0} (bits from : ℕ) (places : List (ValueRef A)) → length (told_from bits from places) ≡ length places
 length-told bits from [] = refl
 length-told bits from (b ∷ places) = ap suc (length-told bits (suc from) places)
 
+-- each variable has a place
+pub has_room : {A : Type 0} {bits n : ℕ} {places : List (ValueRef A)} → AreBoundBy bits n places → n ≤ length places
+has_room by = omega (arith, by.full, by.within)
+
 -- how many variables a binding has
-pub length_binding : {A : Type 0} (bits n : ℕ) (places : List (Bound A)) (binding : List (Option (Value ℕ))) → AreBoundBy bits n places → take n (told_from bits 0 places) ≡ binding → length binding ≡ n
+pub length_binding : {A : Type 0} (bits n : ℕ) (places : List (ValueRef A)) (binding : List (Option (Value ℕ))) → AreBoundBy bits n places → take n (told_from bits 0 places) ≡ binding → length binding ≡ n
 length_binding bits n places binding by same = sym (ap length same) ∙ length-take-le n (told_from bits 0 places) (omega (arith, by.full, by.within, length-told bits 0 places))
 
-pub is_place : {A : Type 0} (bits n : ℕ) (places : List (Bound A)) (binding : List (Option (Value ℕ))) (x : ℕ) → AreBoundBy bits n places → take n (told_from bits 0 places) ≡ binding → x < length binding → x < n
+pub is_place : {A : Type 0} (bits n : ℕ) (places : List (ValueRef A)) (binding : List (Option (Value ℕ))) (x : ℕ) → AreBoundBy bits n places → take n (told_from bits 0 places) ≡ binding → x < length binding → x < n
 is_place bits n places binding x by same lt = omega (arith, lt, length_binding bits n places binding by same)
 
 -- lists that bind as many variables to the same are equal
 pub same_places : (binding other : List (Option (Value ℕ))) → length binding ≡ length other → ((x : ℕ) → bound_at binding x ≡ bound_at other x) → binding ≡ other
 same_places binding other e at = ext_get_or None binding other e (λ x _. at x)
 
-pub binds_as : {A : Type 0} (bits n : ℕ) (places : List (Bound A)) (binding : List (Option (Value ℕ))) → AreBoundBy bits n places → length binding ≡ n → ((x : ℕ) → told (bit_at bits x) (slice_index_or places x bounds.Free) ≡ bound_at binding x) → take n (told_from bits 0 places) ≡ binding
+pub binds_as : {A : Type 0} (bits n : ℕ) (places : List (ValueRef A)) (binding : List (Option (Value ℕ))) → AreBoundBy bits n places → length binding ≡ n → ((x : ℕ) → told (bit_at bits x) (slice_index_or places x filler) ≡ bound_at binding x) → take n (told_from bits 0 places) ≡ binding
 binds_as bits n places binding by len at =
-    same_places (take n (told_from bits 0 places)) binding (length_binding bits n places (take n (told_from bits 0 places)) by refl ∙ sym len) (λ x. at_taken bits n places by.behind x ∙ at x)
+    same_places (take n (told_from bits 0 places)) binding (length_binding bits n places (take n (told_from bits 0 places)) by refl ∙ sym len) (λ x. at_taken bits n places (has_room by) by.behind x ∙ at x)
 
 -- where no variable is bound
 pub free_at : (n x : ℕ) → bound_at (replicate n None) x ≡ None
 free_at n x = grind (arith, common_steps)
 
-pub none_bound : {A : Type 0} (n : ℕ) (places : List (Bound A)) → length places ≡ 24 → n ≤ 24 → AreBoundBy 0 n places
+pub none_bound : {A : Type 0} (n : ℕ) (places : List (ValueRef A)) → length places ≡ 24 → n ≤ 24 → AreBoundBy 0 n places
 none_bound n places full within = grind (arith, bit_at-zero)
 
-pub told_none : {A : Type 0} (n : ℕ) (places : List (Bound A)) → length places ≡ 24 → n ≤ 24 → take n (told_from 0 0 places) ≡ replicate n None
-told_none n places full within = binds_as 0 n places (replicate n None) (none_bound n places full within) (length-replicate n None) (λ x. ap (λ b. told b (slice_index_or places x bounds.Free)) (bit_at-zero x) ∙ sym (free_at n x))
+pub told_none : {A : Type 0} (n : ℕ) (places : List (ValueRef A)) → length places ≡ 24 → n ≤ 24 → take n (told_from 0 0 places) ≡ replicate n None
+told_none n places full within = binds_as 0 n places (replicate n None) (none_bound n places full within) (length-replicate n None) (λ x. ap (λ b. told b (slice_index_or places x filler)) (bit_at-zero x) ∙ sym (free_at n x))
 
 -- what a variable is bound to, by its bit and its place
-told_is : {A : Type 0} (bits n x : ℕ) (places : List (Bound A)) (binding : List (Option (Value ℕ))) → AreBoundBy bits n places → take n (told_from bits 0 places) ≡ binding → told (bit_at bits x) (slice_index_or places x bounds.Free) ≡ bound_at binding x
-told_is bits n x places binding by same = sym (at_taken bits n places by.behind x) ∙ ap (λ b. bound_at b x) same
+told_is : {A : Type 0} (bits n x : ℕ) (places : List (ValueRef A)) (binding : List (Option (Value ℕ))) → AreBoundBy bits n places → take n (told_from bits 0 places) ≡ binding → told (bit_at bits x) (slice_index_or places x filler) ≡ bound_at binding x
+told_is bits n x places binding by same = sym (at_taken bits n places (has_room by) by.behind x) ∙ ap (λ b. bound_at b x) same
 
 -- a bit is 0 or 1
 bit_cases : (bits x : ℕ) → (bit_at bits x ≡ 0) ⊎ (bit_at bits x ≡ 1)
 bit_cases bits x = let small : bit_at bits x < 2 = omega arith in grind arith
 
 -- the bits are those of the variables that are bound
-pub known_bits : {A : Type 0} (bits n : ℕ) (places : List (Bound A)) (binding : List (Option (Value ℕ))) → AreBoundBy bits n places → take n (told_from bits 0 places) ≡ binding → (x : ℕ) → (bit_at bits x ≡ 1) ↔ IsSome (bound_at binding x)
-known_bits bits n places binding by same x = grind (arith, told_is bits n x places binding by same, bit_cases bits x, by.bound x)
+pub known_bits : {A : Type 0} (bits n : ℕ) (places : List (ValueRef A)) (binding : List (Option (Value ℕ))) → AreBoundBy bits n places → take n (told_from bits 0 places) ≡ binding → (x : ℕ) → (bit_at bits x ≡ 1) ↔ IsSome (bound_at binding x)
+known_bits bits n places binding by same x = grind (arith, told_is bits n x places binding by same, bit_cases bits x)
 
 -- what a variable is bound to, by its bit
-pub told_one : {A : Type 0} (bits n x : ℕ) (places : List (Bound A)) (binding : List (Option (Value ℕ))) → AreBoundBy bits n places → take n (told_from bits 0 places) ≡ binding → bit_at bits x ≡ 1 → bound_term (slice_index_or places x bounds.Free) ≡ bound_at binding x
+pub told_one : {A : Type 0} (bits n x : ℕ) (places : List (ValueRef A)) (binding : List (Option (Value ℕ))) → AreBoundBy bits n places → take n (told_from bits 0 places) ≡ binding → bit_at bits x ≡ 1 → Some (said (slice_index_or places x filler)) ≡ bound_at binding x
 told_one bits n x places binding by same one = rw one at (told_is bits n x places binding by same)
 
-pub told_zero : {A : Type 0} (bits n x : ℕ) (places : List (Bound A)) (binding : List (Option (Value ℕ))) → AreBoundBy bits n places → take n (told_from bits 0 places) ≡ binding → (bit_at bits x ≡ 1 → ⊥) → None ≡ bound_at binding x
+pub told_zero : {A : Type 0} (bits n x : ℕ) (places : List (ValueRef A)) (binding : List (Option (Value ℕ))) → AreBoundBy bits n places → take n (told_from bits 0 places) ≡ binding → (bit_at bits x ≡ 1 → ⊥) → None ≡ bound_at binding x
 told_zero bits n x places binding by same not_one = grind (arith, told_is bits n x places binding by same, bit_cases bits x)
 
 -- a place more is copied
-pub copy_more : {A : Type 0} (i : ℕ) (places copies : List (Bound A)) (b : Bound A) → i < length copies → b ≡ slice_index_or places i bounds.Free → ((x : ℕ) → x < i → slice_index_or copies x bounds.Free ≡ slice_index_or places x bounds.Free) → (x : ℕ) → x < i + 1 → slice_index_or (slice_set copies i b) x bounds.Free ≡ slice_index_or places x bounds.Free
-copy_more i places copies b within is before x below = grind (arith, cases_eq x i, before x, get_or-set_same copies i b bounds.Free within, get_or-set_other copies i x b bounds.Free)
+pub copy_more : {A : Type 0} (i : ℕ) (places copies : List (ValueRef A)) (b : ValueRef A) → i < length copies → b ≡ slice_index_or places i filler → ((x : ℕ) → x < i → slice_index_or copies x filler ≡ slice_index_or places x filler) → (x : ℕ) → x < i + 1 → slice_index_or (slice_set copies i b) x filler ≡ slice_index_or places x filler
+copy_more i places copies b within is before x below = grind (arith, cases_eq x i, before x, get_or-set_same copies i b filler within, get_or-set_other copies i x b filler)
 
 -- places that are the same as far as there are variables
-pub bound_copy : {A : Type 0} (bits n : ℕ) (places copies : List (Bound A)) (binding : List (Option (Value ℕ))) → AreBoundBy bits n places → take n (told_from bits 0 places) ≡ binding → length copies ≡ 24 → ((x : ℕ) → x < n → slice_index_or copies x bounds.Free ≡ slice_index_or places x bounds.Free) → AreBoundBy bits n copies × (take n (told_from bits 0 copies) ≡ binding)
+pub bound_copy : {A : Type 0} (bits n : ℕ) (places copies : List (ValueRef A)) (binding : List (Option (Value ℕ))) → AreBoundBy bits n places → take n (told_from bits 0 places) ≡ binding → length copies ≡ 24 → ((x : ℕ) → x < n → slice_index_or copies x filler ≡ slice_index_or places x filler) → AreBoundBy bits n copies × (take n (told_from bits 0 copies) ≡ binding)
 bound_copy bits n places copies binding by same full at = (now, binds_as bits n copies binding now (length_binding bits n places binding by same) (λ x. alike x ∙ told_is bits n x places binding by same))
   where
     now : AreBoundBy bits n copies
-    now = record { full = full; within = by.within; behind = by.behind; bound = λ x one. grind (arith, by.bound x, by.behind x, at x) }
+    now = record { full = full; within = by.within; behind = by.behind }
 
-    alike : (x : ℕ) → told (bit_at bits x) (slice_index_or copies x bounds.Free) ≡ told (bit_at bits x) (slice_index_or places x bounds.Free)
+    alike : (x : ℕ) → told (bit_at bits x) (slice_index_or copies x filler) ≡ told (bit_at bits x) (slice_index_or places x filler)
     alike x = grind (arith, bit_cases bits x, by.behind x, at x)
 
 -- a write at a variable's place
-pub after_write : {A : Type 0} (bs slice : List (Bound A)) (x at : ℕ) (b : Bound A) → slice ≡ bs → at ≡ x → refill (length bs) bs (slice_set slice at b) ≡ slice_set bs x b
+pub after_write : {A : Type 0} (bs slice : List (ValueRef A)) (x at : ℕ) (b : ValueRef A) → slice ≡ bs → at ≡ x → refill (length bs) bs (slice_set slice at b) ≡ slice_set bs x b
 after_write bs slice x at b same there = ap₂ (λ s y. refill (length bs) bs (slice_set s y b)) same there ∙ take_at (slice_set bs x b) _ (length bs) (length-set bs x b)
 
-pub bound_write : {A : Type 0} (bits new n x : ℕ) (places : List (Bound A)) (b : Bound A) → AreBoundBy bits n places → x < n → IsSome (bound_term b) → bit_at new x ≡ 1 → ((y : ℕ) → y ≢ x → bit_at new y ≡ bit_at bits y) → AreBoundBy new n (slice_set places x b)
-bound_write bits new n x places b by lt some here others = record {
+pub bound_write : {A : Type 0} (bits new n x : ℕ) (places : List (ValueRef A)) (b : ValueRef A) → AreBoundBy bits n places → x < n → bit_at new x ≡ 1 → ((y : ℕ) → y ≢ x → bit_at new y ≡ bit_at bits y) → AreBoundBy new n (slice_set places x b)
+bound_write bits new n x places b by lt here others = record {
   full = length-set places x b ∙ by.full;
   within = by.within;
   behind = λ y le. others y (λ e. omega (arith, e, le, lt)) ∙ by.behind y le;
-  bound = λ y one. grind (arith, cases_eq y x, by.bound y, others y, get_or-set_same places x b bounds.Free, get_or-set_other places x y b bounds.Free);
 }
 
-pub told_write : {A : Type 0} (bits new n x : ℕ) (places : List (Bound A)) (b : Bound A) (binding : List (Option (Value ℕ))) (by : AreBoundBy bits n places) (same : take n (told_from bits 0 places) ≡ binding) (lt : x < n) (some : IsSome (bound_term b)) (here : bit_at new x ≡ 1) (others : (y : ℕ) → y ≢ x → bit_at new y ≡ bit_at bits y) → take n (told_from new 0 (slice_set places x b)) ≡ slice_set binding x (bound_term b)
-told_write bits new n x places b binding by same lt some here others =
+pub told_write : {A : Type 0} (bits new n x : ℕ) (places : List (ValueRef A)) (b : ValueRef A) (binding : List (Option (Value ℕ))) (by : AreBoundBy bits n places) (same : take n (told_from bits 0 places) ≡ binding) (lt : x < n) (here : bit_at new x ≡ 1) (others : (y : ℕ) → y ≢ x → bit_at new y ≡ bit_at bits y) → take n (told_from new 0 (slice_set places x b)) ≡ slice_set binding x (Some (said b))
+told_write bits new n x places b binding by same lt here others =
     let len = length_binding bits n places binding by same in
     let place : x < length places = omega (arith, lt, by.full, by.within) in
-    binds_as new n (slice_set places x b) (slice_set binding x (bound_term b)) (bound_write bits new n x places b by lt some here others) (length-set binding x (bound_term b) ∙ len) (λ y.
-    grind (arith, cases_eq y x, told_is bits n y places binding by same, others y, get_or-set_same places x b bounds.Free place, get_or-set_other places x y b bounds.Free, get_or-set_same binding x (bound_term b) None, get_or-set_other binding x y (bound_term b) None))
+    binds_as new n (slice_set places x b) (slice_set binding x (Some (said b))) (bound_write bits new n x places b by lt here others) (length-set binding x (Some (said b)) ∙ len) (λ y.
+    grind (arith, cases_eq y x, told_is bits n y places binding by same, others y, get_or-set_same places x b filler place, get_or-set_other places x y b filler, get_or-set_same binding x (Some (said b)) None, get_or-set_other binding x y (Some (said b)) None))
 
 -- a value is put at a variable's place
-pub put_at : {A : Type 0} (bits new n x at : ℕ) (places slice : List (Bound A)) (b : Bound A) (t : Value ℕ) (binding : List (Option (Value ℕ))) → AreBoundBy bits n places → take n (told_from bits 0 places) ≡ binding → x < length binding → slice ≡ places → at ≡ x → bound_term b ≡ Some t → bit_at new x ≡ 1 → ((y : ℕ) → y ≢ x → bit_at new y ≡ bit_at bits y)
-    → AreBoundBy new n (refill (length places) places (slice_set slice at b)) × (take n (told_from new 0 (refill (length places) places (slice_set slice at b))) ≡ slice_set binding x (Some t))
-put_at bits new n x at places slice b t binding by same lt is there some here others =
+pub put_at : {A : Type 0} (bits new n x at : ℕ) (places slice : List (ValueRef A)) (b : ValueRef A) (binding : List (Option (Value ℕ))) → AreBoundBy bits n places → take n (told_from bits 0 places) ≡ binding → x < length binding → slice ≡ places → at ≡ x → bit_at new x ≡ 1 → ((y : ℕ) → y ≢ x → bit_at new y ≡ bit_at bits y)
+    → AreBoundBy new n (refill (length places) places (slice_set slice at b)) × (take n (told_from new 0 (refill (length places) places (slice_set slice at b))) ≡ slice_set binding x (Some (said b)))
+put_at bits new n x at places slice b binding by same lt is there here others =
     let place = is_place bits n places binding x by same lt in
-    let bound = subst (λ o. IsSome o) (sym some) refl in
-    rw (after_write places slice x at b is there) (bound_write bits new n x places b by place bound here others, told_write bits new n x places b binding by same place bound here others ∙ ap (λ o. slice_set binding x o) some)
+    rw (after_write places slice x at b is there) (bound_write bits new n x places b by place here others, told_write bits new n x places b binding by same place here others)
 
 -- a binding is the least valuation that extends it
 pub extends_itself : (binding : List (Option (Value ℕ))) → Extends (bound_at binding) binding
@@ -171,7 +177,7 @@ pub narrows_keeps : (P : Valuation → Type 0) (old new : List (Option (Value �
 narrows_keeps P old new n = record { places = n.places; extends = ((n.exactly (bound_at new)).0 (extends_itself new)).0 }
 
 -- A binding that has kept another returns to it: the variables that the other binds are bound to the same.
-pub returns_to : {A : Type 0} (bits known n : ℕ) (places : List (Bound A)) (binding before : List (Option (Value ℕ))) → AreBoundBy bits n places → take n (told_from bits 0 places) ≡ binding → ((x : ℕ) → (bit_at known x ≡ 1) ↔ IsSome (bound_at before x)) → Keeps before binding → AreBoundBy known n places × (take n (told_from known 0 places) ≡ before)
+pub returns_to : {A : Type 0} (bits known n : ℕ) (places : List (ValueRef A)) (binding before : List (Option (Value ℕ))) → AreBoundBy bits n places → take n (told_from bits 0 places) ≡ binding → ((x : ℕ) → (bit_at known x ≡ 1) ↔ IsSome (bound_at before x)) → Keeps before binding → AreBoundBy known n places × (take n (told_from known 0 places) ≡ before)
 returns_to bits known n places binding before by same are k = (now, binds_as known n places before now (sym k.places ∙ length_binding bits n places binding by same) (λ x. each x (bit_cases known x)))
   where
     kept : (x : ℕ) → bit_at known x ≡ 1 → bound_at binding x ≡ bound_at before x
@@ -185,12 +191,11 @@ returns_to bits known n places binding before by same are k = (now, binds_as kno
       full = by.full;
       within = by.within;
       behind = λ x le. grind (arith, bit_cases known x, by.behind x, stays x);
-      bound = λ x one. by.bound x (stays x one);
     }
 
-    each : (x : ℕ) → (bit_at known x ≡ 0) ⊎ (bit_at known x ≡ 1) → told (bit_at known x) (slice_index_or places x bounds.Free) ≡ bound_at before x
+    each : (x : ℕ) → (bit_at known x ≡ 0) ⊎ (bit_at known x ≡ 1) → told (bit_at known x) (slice_index_or places x filler) ≡ bound_at before x
     each x (inl none) = grind (arith, are x)
-    each x (inr one) = ap (λ b. told b (slice_index_or places x bounds.Free)) one ∙ told_one bits n x places binding by same (stays x one) ∙ kept x one
+    each x (inr one) = ap (λ b. told b (slice_index_or places x filler)) one ∙ told_one bits n x places binding by same (stays x one) ∙ kept x one
 
 -- where there is none for a part there is none for the whole
 pub none_after : (P Q R : Valuation → Type 0) (old mid : List (Option (Value ℕ))) → Narrows P old mid → NoneUnder Q mid → ((v : Valuation) → R v → P v × Q v) → NoneUnder R old

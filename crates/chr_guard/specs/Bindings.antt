@@ -1,41 +1,31 @@
 -- What the variables of a rule are bound to: a list in the order of their numbers.
 use Rattle.std.specs.Prelude.{◌≡◌, ℕ, zero, suc, Bool, true, false, ◌<◌, ◌≤◌, ◌↔◌, List, [], ◌∷◌, length, Option, Some, None, IsSome, slice_index_or}
 use Rattle.std.specs.Int.{bit_at}
-use Rattle.chr_value.specs.Atoms.{Value, Int, Sym, ground_comp}
+use Rattle.chr_value.specs.Atoms.{Value, said}
+use Rattle.chr_value.specs.declared.value.ValueRef.{ValueRef}
 use Rattle.chr_rule.specs.Rules.{Expression, Number, Variable, Operation, Comparison, Compared, Same, Differ}
-use Rattle.chr_guard.specs.declared.binding.Bound.{Bound}
-use Rattle.chr_guard.specs.declared.binding.Bound.TheVariants as bounds
 use Rattle.chr_guard.specs.declared.binding.Known.{Known}
 use Rattle.chr_guard.specs.Values.{Valuation}
-
--- what one variable is bound to
-abbrev pub bound_term : {A : Type 0} → Bound A → Option (Value ℕ)
-bound_term bounds.Free = None
-bound_term (bounds.Number n) = Some (Int n)
-bound_term (bounds.Symbol name) = Some (Sym name.number)
-bound_term (bounds.Compound c) = Some (ground_comp c.now)
 
 -- a binding as a valuation; a variable past the end isn't bound
 abbrev pub bound_at : List (Option (Value ℕ)) → Valuation
 bound_at binding x = slice_index_or binding x None
 
 -- what a variable is bound to, where its bit is 1
-abbrev pub told : {A : Type 0} → ℕ → Bound A → Option (Value ℕ)
+abbrev pub told : {A : Type 0} → ℕ → ValueRef A → Option (Value ℕ)
 told zero b = None
-told (suc n) b = bound_term b
+told (suc n) b = Some (said b)
 
 -- what the variables from one on are bound to, by their bits and their places
-abbrev pub told_from : {A : Type 0} → ℕ → ℕ → List (Bound A) → List (Option (Value ℕ))
+abbrev pub told_from : {A : Type 0} → ℕ → ℕ → List (ValueRef A) → List (Option (Value ℕ))
 told_from bits x [] = []
 told_from bits x (b ∷ places) = told (bit_at bits x) b ∷ told_from bits (suc x) places
 
 -- There are 24 places. The bits of this many variables say which are bound, and those behind are 0.
-pub record AreBoundBy {A : Type 0} (bits variables : ℕ) (places : List (Bound A)) : Type 0 where
+pub record AreBoundBy {A : Type 0} (bits variables : ℕ) (places : List (ValueRef A)) : Type 0 where
   pub full : length places ≡ 24
   pub within : variables ≤ 24
   pub behind : (x : ℕ) → variables ≤ x → bit_at bits x ≡ 0
-  pub bound : (x : ℕ) → bit_at bits x ≡ 1 →
-      IsSome (bound_term (slice_index_or places x bounds.Free))
 
 -- the valuation gives each bound variable its value
 abbrev pub Extends : Valuation → List (Option (Value ℕ)) → Type 0

@@ -3,78 +3,13 @@ ghost use Rattle.std.specs.Prelude.{◌≡◌, ◌≢◌, ◌<◌, ◌≤◌, �
 ghost use Rattle.std.specs.Int.{bit_at};
 ghost use Rattle.std.specs.Option.{option_map};
 ghost use Rattle.chr_value.specs.Atoms.{said, Int, Value};
-ghost use Rattle.chr_guard.specs.Bindings.{bound_term, bound_at, NarrowsIf, Keeps, AreKnown, AreBound};
+ghost use Rattle.chr_guard.specs.Bindings.{bound_at, NarrowsIf, Keeps, AreKnown, AreBound};
 
 use arrayvec::ArrayVec;
 use chr_rule::MOST_VARIABLES;
-use chr_value::{Comp, Name, ValueRef};
+use chr_value::ValueRef;
 use std::alloc::Allocator;
 use std::marker::Model;
-
-/// What one variable is bound to: nothing, a number, a symbol, or a compound value that lies elsewhere.
-#[derive(Clone, Copy)]
-pub enum Bound<'v, A: Allocator> {
-    Free,
-    Number(i64),
-    Symbol(Name),
-    Compound(&'v Comp<A>),
-}
-
-impl<'v, A: Allocator> Default for Bound<'v, A> {
-    fn default() -> Self {
-        Bound::Free
-    }
-}
-
-impl<'v, A: Allocator> Bound<'v, A> {
-    /// What stands for a value.
-    #[inline(always)]
-    fn of(value: ValueRef<'v, A>) -> Bound<'v, A>
-        ensures { bound_term result ≡ Some (said value.entry) }
-    {
-        match value {
-            ValueRef::Int(n) => Bound::Number(n),
-            ValueRef::Sym(name) => Bound::Symbol(name),
-            ValueRef::Comp(comp) => Bound::Compound(comp),
-        }
-    }
-
-    /// Whether it stands for no value.
-    pub fn is_free(&self) -> bool
-        ensures { IsTrue result ↔ (bound_term self.now ≡ None) }
-    {
-        match self {
-            Bound::Free => true,
-            _ => false,
-        }
-    }
-
-    /// Whether it stands for this value.
-    #[inline(always)]
-    pub fn is(&self, value: &ValueRef<'_, A>) -> bool
-        ensures { IsTrue result ↔ (bound_term self.now ≡ Some (said value.now)) }
-    {
-        match self {
-            Bound::Free => false,
-            Bound::Number(n) => value.same(&ValueRef::Int(*n)),
-            Bound::Symbol(name) => value.same(&ValueRef::Sym(*name)),
-            Bound::Compound(comp) => value.same(&ValueRef::Comp(comp)),
-        }
-    }
-
-    /// The value that it stands for, or None where it is free.
-    #[inline(always)]
-    pub fn value(&self) -> Option<ValueRef<'v, A>>
-        ensures { option_map said result ≡ bound_term self.now }
-    {
-        match self {
-            Bound::Free => None,
-            Bound::Number(n) => Some(ValueRef::Int(*n)),
-            Bound::Symbol(name) => Some(ValueRef::Sym(*name)),
-            Bound::Compound(comp) => Some(ValueRef::Comp(comp)),
-        }
-    }
-}
 
 /// Which variables of a binding are bound.
 #[derive(Clone, Copy)]
@@ -111,7 +46,7 @@ impl Known {
 #[derive(Drop)]
 pub struct Binding<'v, A: Allocator> {
     /// Says nothing of a variable that isn't known.
-    bound: ArrayVec<Bound<'v, A>, MOST_VARIABLES>,
+    bound: ArrayVec<ValueRef<'v, A>, MOST_VARIABLES>,
     known: Known,
     variables: usize,
 }
@@ -139,7 +74,7 @@ impl<'v, A: Allocator + Copy> Binding<'v, A> {
         ensures { result ≡ replicate variables None }
     {
         Binding {
-            bound: ArrayVec::from_array_in((), [Bound::Free; MOST_VARIABLES]),
+            bound: ArrayVec::from_array_in((), [ValueRef::Int(0); MOST_VARIABLES]),
             known: Known { bits: 0 },
             variables,
         }
@@ -186,13 +121,13 @@ impl<'v, A: Allocator + Copy> Binding<'v, A> {
 
     /// What a variable is bound to.
     #[inline(always)]
-    pub fn at(&self, variable: u8) -> Bound<'v, A>
-        ensures { bound_term result ≡ bound_at self.now variable }
+    pub fn at(&self, variable: u8) -> Option<ValueRef<'v, A>>
+        ensures { option_map said result ≡ bound_at self.now variable }
     {
         if self.variables <= usize::from(variable) || !self.known.has(variable) {
-            return Bound::Free;
+            return None;
         }
-        self.bound(variable)
+        Some(self.bound(variable))
     }
 
     /// How many of the first variables are bound, without a free one among them.
@@ -205,9 +140,9 @@ impl<'v, A: Allocator + Copy> Binding<'v, A> {
 
     /// What a variable is bound to that is bound.
     #[inline(always)]
-    pub(crate) fn bound(&self, variable: u8) -> Bound<'v, A>
+    pub(crate) fn bound(&self, variable: u8) -> ValueRef<'v, A>
         requires { IsSome (bound_at self.now variable) }
-        ensures { bound_term result ≡ bound_at self.now variable }
+        ensures { Some (said result) ≡ bound_at self.now variable }
     {
         self.bound[usize::from(variable)]
     }
@@ -218,7 +153,7 @@ impl<'v, A: Allocator + Copy> Binding<'v, A> {
         requires { variable < length self.old }
         ensures { self.new ≡ slice_set self.old variable (Some (said value.entry)) }
     {
-        self.bound[usize::from(variable)] = Bound::of(value);
+        self.bound[usize::from(variable)] = value;
         self.known = self.known.with(variable);
     }
 
@@ -233,7 +168,7 @@ impl<'v, A: Allocator + Copy> Binding<'v, A> {
             self.put(variable, value);
             return true;
         }
-        self.bound[usize::from(variable)].is(&value)
+        self.bound[usize::from(variable)].same(&value)
     }
 
     /// Binds a variable to a number. Where it is bound already, answers whether it is bound to this one.

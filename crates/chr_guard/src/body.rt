@@ -29,7 +29,7 @@ fn made<A: Allocator + Copy>(alloc: A, term: &Term<A>, binding: &Binding<'_, A>)
     ensures { IfOk result (λ made. option_map ground made ≡ term_under (bound_at binding.now) (argument term.now)) }
 {
     match term {
-        Term::Var(x) => match binding.at(*x).value() {
+        Term::Var(x) => match binding.at(*x) {
             None => Ok(None),
             Some(value) => Ok(Some(value.copy(alloc)?)),
         },

@@ -34,7 +34,7 @@ mod settled;
 mod terms;
 mod values;
 
-pub use binding::{Binding, Bound, Known};
+pub use binding::{Binding, Known};
 pub use matching::{bind_partner, fit, fit_head, fit_partner};
 pub use settled::Settled;
 pub use values::{holds, value};

@@ -1,10 +1,11 @@
 //! What is kept of a binding without what it borrows.
 ghost use Rattle.std.specs.Prelude.{◌≡◌, ◌≤◌, length, map, true, IfOk, MatchOption};
 ghost use Rattle.std.specs.List.{list_any};
-ghost use Rattle.chr_guard.specs.Bindings.{bound_term};
+ghost use Rattle.std.specs.Option.{option_map};
+ghost use Rattle.chr_value.specs.Atoms.{said};
 ghost use Rattle.chr_guard.specs.Settled.{Places, mark_of, mark_view, is_compound, IsFilled};
 
-use crate::binding::{Binding, Bound};
+use crate::binding::Binding;
 use chr_value::{Name, ValueRef};
 use std::alloc::{AllocError, Allocator};
 use std::marker::Model;
@@ -27,14 +28,14 @@ impl Default for Mark {
 impl Mark {
     /// What is kept of what a variable is bound to.
     #[inline(always)]
-    fn of<'v, A: Allocator>(bound: Bound<'v, A>) -> Mark
-        ensures { mark_view result ≡ mark_of (bound_term bound.entry) }
+    fn of<'v, A: Allocator>(bound: Option<ValueRef<'v, A>>) -> Mark
+        ensures { mark_view result ≡ mark_of (option_map said bound.entry) }
     {
         match bound {
-            Bound::Free => Mark::Free,
-            Bound::Number(n) => Mark::Number(n),
-            Bound::Symbol(name) => Mark::Symbol(name),
-            Bound::Compound(_) => Mark::Compound,
+            None => Mark::Free,
+            Some(ValueRef::Int(n)) => Mark::Number(n),
+            Some(ValueRef::Sym(name)) => Mark::Symbol(name),
+            Some(ValueRef::Comp(_)) => Mark::Compound,
         }
     }
 }

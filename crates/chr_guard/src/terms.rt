@@ -9,7 +9,7 @@ ghost use Rattle.chr_guard.specs.Bindings.{bound_at};
 ghost use Rattle.chr_guard.specs.Instances.{made_under};
 ghost use Rattle.chr_guard.specs.Terms.{plain_value, left_under, left_under_all};
 
-use crate::binding::{Binding, Bound};
+use crate::binding::Binding;
 use chr_rule::{RuleAtom, Term};
 use chr_value::{MOST_DEPTH, MOST_SIZE, Name, Value, ValueRef};
 use std::alloc::Allocator;
@@ -41,7 +41,7 @@ impl<'v, A: Allocator + Copy> Binding<'v, A> {
         ensures { option_map said result ≡ key_under (bound_at self.now) (argument term.now) }
     {
         match term {
-            Term::Var(x) => self.at(*x).value(),
+            Term::Var(x) => self.at(*x),
             Term::Given(value) => Some(value.as_ref()),
             Term::Open(_) => None,
         }
@@ -54,8 +54,8 @@ impl<'v, A: Allocator + Copy> Binding<'v, A> {
     {
         match term {
             Term::Var(x) => match self.at(*x) {
-                Bound::Number(n) => Some(Plain::Number(n)),
-                Bound::Symbol(name) => Some(Plain::Symbol(name)),
+                Some(ValueRef::Int(n)) => Some(Plain::Number(n)),
+                Some(ValueRef::Sym(name)) => Some(Plain::Symbol(name)),
                 _ => None,
             },
             Term::Given(value) => match value {
@@ -74,7 +74,7 @@ impl<'v, A: Allocator + Copy> Binding<'v, A> {
         ensures { result ≡ left_under depth room (term_under (bound_at self.now) (argument term.now)) }
     {
         match term {
-            Term::Var(x) => match self.at(*x).value() {
+            Term::Var(x) => match self.at(*x) {
                 None => None,
                 Some(value) => value.left(depth, room),
             },
@@ -126,7 +126,10 @@ impl<'v, A: Allocator + Copy> Binding<'v, A> {
         ensures { IsTrue result ↔ (term_under (bound_at self.now) (argument term.now) ≡ Some (said value.entry)) }
     {
         match term {
-            Term::Var(x) => self.at(*x).is(&value),
+            Term::Var(x) => match self.at(*x) {
+                None => false,
+                Some(other) => other.same(&value),
+            },
             Term::Given(given) => given.as_ref().same(&value),
             Term::Open(open) => match value {
                 ValueRef::Comp(comp) => {
@@ -160,13 +163,13 @@ impl<'v, A: Allocator + Copy> Binding<'v, A> {
         ensures { IsTrue result ↔ WhereBoth (λ a b. a ≡ b) (term_under (bound_at self.now) (argument s.now)) (term_under (bound_at self.now) (argument t.now)) }
     {
         match s {
-            Term::Var(x) => match self.at(*x).value() {
+            Term::Var(x) => match self.at(*x) {
                 None => false,
                 Some(value) => self.stands_for(t, value),
             },
             Term::Given(value) => self.stands_for(t, value.as_ref()),
             Term::Open(open) => match t {
-                Term::Var(y) => match self.at(*y).value() {
+                Term::Var(y) => match self.at(*y) {
                     None => false,
                     Some(value) => self.stands_for(s, value),
                 },

@@ -9,8 +9,9 @@ ghost use Rattle.chr_guard.specs.Bindings.{bound_at, AllBound, SidesBound};
 ghost use Rattle.chr_guard.specs.Matching.{IsOfHeads};
 
 use crate::arithmetic::{compare, compute};
-use crate::binding::{Binding, Bound};
+use crate::binding::Binding;
 use chr_rule::{Comparison, Expr, Operator, Relation, Rule};
+use chr_value::ValueRef;
 use std::alloc::Allocator;
 
 /// The value of an expression over exact whole numbers. It has none where a variable is free or stands for another value,
@@ -30,7 +31,7 @@ fn are_bound<A: Allocator + Copy>(expr: &Expr<A>, binding: &Binding<'_, A>) -> b
 {
     match expr {
         Expr::Number(_) => true,
-        Expr::Var(x) => !binding.at(*x).is_free(),
+        Expr::Var(x) => binding.at(*x).is_some(),
         Expr::Operation(_, a, b) => are_bound(a, binding) && are_bound(b, binding),
     }
 }
@@ -60,7 +61,7 @@ fn bound_value<A: Allocator + Copy>(expr: &Expr<A>, binding: &Binding<'_, A>) ->
     match expr {
         Expr::Number(n) => Some(*n),
         Expr::Var(x) => match binding.bound(*x) {
-            Bound::Number(n) => Some(n),
+            ValueRef::Int(n) => Some(n),
             _ => None,
         },
         Expr::Operation(operator, a, b) => operation(*operator, a, b, binding),
@@ -84,7 +85,7 @@ fn operation<A: Allocator + Copy>(
     let left = match a {
         Expr::Number(n) => *n,
         Expr::Var(x) => match binding.bound(*x) {
-            Bound::Number(n) => n,
+            ValueRef::Int(n) => n,
             _ => return None,
         },
         Expr::Operation(operator, a, b) => nested(*operator, a, b, binding)?,
@@ -92,7 +93,7 @@ fn operation<A: Allocator + Copy>(
     let right = match b {
         Expr::Number(n) => *n,
         Expr::Var(x) => match binding.bound(*x) {
-            Bound::Number(n) => n,
+            ValueRef::Int(n) => n,
             _ => return None,
         },
         Expr::Operation(operator, a, b) => nested(*operator, a, b, binding)?,
@@ -131,7 +132,7 @@ fn compared<A: Allocator + Copy>(
     let left = match a {
         Expr::Number(n) => *n,
         Expr::Var(x) => match binding.bound(*x) {
-            Bound::Number(n) => n,
+            ValueRef::Int(n) => n,
             _ => return false,
         },
         Expr::Operation(operator, a, b) => match operation(*operator, a, b, binding) {
@@ -142,7 +143,7 @@ fn compared<A: Allocator + Copy>(
     let right = match b {
         Expr::Number(n) => *n,
         Expr::Var(x) => match binding.bound(*x) {
-            Bound::Number(n) => n,
+            ValueRef::Int(n) => n,
             _ => return false,
         },
         Expr::Operation(operator, a, b) => match operation(*operator, a, b, binding) {

@@ -2,13 +2,13 @@
 use crate::tests::texts::{atoms_of, program_of};
 use chr_guard::body::body;
 use chr_guard::instance::instance;
-use chr_guard::{Binding, Bound, fit, holds};
+use chr_guard::{Binding, fit, holds};
 use chr_rule::{Comparison, Expr, Program, Relation, Rule, Term};
 use chr_value::{Atom, Name, Names, Value, ValueRef};
 use std::alloc::Global;
 
-fn number_of(bound: Bound<'_, Global>) -> Option<i64> {
-    match bound.value() {
+fn number_of(bound: Option<ValueRef<'_, Global>>) -> Option<i64> {
+    match bound {
         Some(ValueRef::Int(n)) => Some(n),
         _ => None,
     }

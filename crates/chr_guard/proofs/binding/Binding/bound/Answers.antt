@@ -1,10 +1,9 @@
-use Rattle.std.proofs.Common.{◌≡◌, ◌<◌, ⊎_elim, ap, ◌∙◌, arith, slice_index_or}
+use Rattle.std.proofs.Common.{◌≡◌, ◌<◌, Some, ⊎_elim, ap, ◌∙◌, arith, slice_index_or}
 use Rattle.std.proofs.lemmas.Bool.{cases_lt}
 use Rattle.std.proofs.lemmas.Grind.{common_steps}
 use Rattle.std.specs.Int.{bit_at}
-use Rattle.chr_guard.specs.Bindings.{bound_term}
-use Rattle.chr_guard.specs.declared.binding.Bound.TheVariants as bounds
-use Rattle.chr_guard.proofs.Bindings.{known_bits, told_one}
+use Rattle.chr_value.specs.Atoms.{said}
+use Rattle.chr_guard.proofs.Bindings.{filler, known_bits, told_one}
 use Rattle.chr_guard.proofs.binding.Binding.bound.Goals as goal
 
 pub returns : goal.returns
@@ -14,5 +13,5 @@ returns g c =
     let x = c.args.variable in
     let one : bit_at bits x ≡ 1 = (known_bits bits n c.self.inside.bound.items c.args.self.now c.self.invariant c.self.view_is x).1 c.requires in
     let within : x < n = ⊎_elim (λ less. less) (λ le. (let none = c.self.invariant.behind x le in absurd (omega (arith, none, one)))) (cases_lt x n) in
-    let found : c.index-deref-from.result ≡ slice_index_or c.self.inside.bound.items x bounds.Free = grind (arith, common_steps) in
-    ap bound_term found ∙ told_one bits n x c.self.inside.bound.items c.args.self.now c.self.invariant c.self.view_is one
+    let found : c.index-deref-from.result ≡ slice_index_or c.self.inside.bound.items x filler = grind (arith, common_steps) in
+    ap (λ v. Some (said v)) found ∙ told_one bits n x c.self.inside.bound.items c.args.self.now c.self.invariant c.self.view_is one

@@ -2,8 +2,7 @@ use Rattle.std.proofs.Common.{◌<◌, None, length, slice_index_or, ap, refl, s
 use Rattle.std.proofs.lemmas.Grind.{common_steps}
 use Rattle.std.proofs.lemmas.List.{length-replicate}
 use Rattle.chr_guard.specs.Bindings.{told_from}
-use Rattle.chr_guard.specs.declared.binding.Bound.TheVariants as bounds
-use Rattle.chr_guard.proofs.Bindings.{after_write, bound_copy, copy_more, length_binding}
+use Rattle.chr_guard.proofs.Bindings.{filler, after_write, bound_copy, copy_more, length_binding}
 use Rattle.chr_guard.proofs.binding.Binding.copy.Goals as goal
 
 pub loop-variable-init : goal.loop-variable-init
@@ -22,7 +21,7 @@ loop-variable-preserved g c =
     record {
       variables = c.loop-variable.invariant.variables;
       full = ap length written ∙ length-set copies i c.index-deref-variable.result ∙ c.loop-variable.invariant.full;
-      items = λ x lt. ap (λ bs. slice_index_or bs x bounds.Free) written ∙ copy_more i c.self.inside.bound.items copies c.index-deref-variable.result place (grind (arith, common_steps)) c.loop-variable.invariant.items x lt;
+      items = λ x lt. ap (λ bs. slice_index_or bs x filler) written ∙ copy_more i c.self.inside.bound.items copies c.index-deref-variable.result place (grind (arith, common_steps)) c.loop-variable.invariant.items x lt;
     }
 
 pub returns : goal.returns
