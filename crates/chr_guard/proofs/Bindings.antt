@@ -1,14 +1,16 @@
 -- Bindings and the valuations that extend them.
 use Rattle.chr_guard.proofs.Under.{some_is_some}
-use Rattle.std.proofs.Common.{◌≡◌, ◌≢◌, ◌↔◌, ℕ, pos, zero, suc, ◌+◌, ◌<◌, ◌≤◌, Bool, true, false, IsTrue, ◌==◌, if◌then◌else◌, List, [], ◌∷◌, length, take, replicate, Option, Some, None, IsSome, ◌⊎◌, inl, inr, refl, sym, subst, ap, ap₂, ◌∙◌, arith, slice_index_or, slice_set, get_or-set_same, get_or-set_other, length-set}
+use Rattle.std.proofs.Common.{◌≡◌, ◌≢◌, ◌↔◌, ℕ, pos, zero, suc, ◌+◌, ◌<◌, ◌≤◌, Bool, true, false, IsTrue, ◌==◌, if◌then◌else◌, List, [], ◌∷◌, length, take, replicate, Option, Some, None, IsSome, IfSome, ◌⊎◌, ⊎_elim, inl, inr, refl, sym, subst, ap, ap₂, ◌∙◌, arith, slice_get, slice_index_or, slice_set, get_or-set_same, get_or-set_other, length-set}
 use Rattle.std.proofs.lemmas.Grind.{common_steps}
 use Rattle.std.specs.List.{refill}
 use Rattle.std.specs.Int.{bit_at}
 use Rattle.std.proofs.lemmas.List.{length-take-le, length-replicate, take_at, ext_get_or}
 use Rattle.std.proofs.lemmas.Nat.Bits.{bit_at-zero}
-use Rattle.std.proofs.lemmas.Bool.{cases_eq}
+use Rattle.std.proofs.lemmas.Bool.{cases_eq, cases_lt}
 use Rattle.std.proofs.lemmas.Bool.Decides.{nat_tests}
+use Rattle.std.proofs.lemmas.Option.{slice_get-get_or, get_or_from_slice_get}
 use Rattle.chr_value.specs.Atoms.{Value, said}
+use Rattle.chr_value.specs.Limits.{IsWithin}
 use Rattle.chr_value.specs.declared.value.ValueRef.{ValueRef}
 use Rattle.chr_value.specs.declared.value.ValueRef.TheVariants as refs
 use Rattle.chr_guard.specs.Values.{Valuation}
@@ -36,9 +38,27 @@ pub length-told : {A : Type 0} (bits from : ℕ) (places : List (ValueRef A)) �
 length-told bits from [] = refl
 length-told bits from (b ∷ places) = ap suc (length-told bits (suc from) places)
 
+-- a bit is 0 or 1
+bit_cases : (bits x : ℕ) → (bit_at bits x ≡ 0) ⊎ (bit_at bits x ≡ 1)
+bit_cases bits x = let small : bit_at bits x < 2 = omega arith in grind arith
+
 -- each variable has a place
 pub has_room : {A : Type 0} {bits n : ℕ} {places : List (ValueRef A)} → AreBoundBy bits n places → n ≤ length places
 has_room by = omega (arith, by.full, by.within)
+
+-- a bound variable is one of them, and the value at its place is within the limits
+pub known_place : {A : Type 0} {bits n : ℕ} {places : List (ValueRef A)} → AreBoundBy bits n places → (x : ℕ) → bit_at bits x ≡ 1 → x < n
+known_place {A} {bits} {n} by x one = ⊎_elim (λ less. less) (λ le. let none = by.behind x le in absurd (omega (arith, none, one))) (cases_lt x n)
+
+known_limits : {A : Type 0} {bits n : ℕ} {places : List (ValueRef A)} → AreBoundBy bits n places → (x : ℕ) → bit_at bits x ≡ 1 → IsWithin (said (slice_index_or places x filler))
+known_limits {A} {bits} {n} {places} by x one = subst (λ o. IfSome o (λ b. IsWithin (said b))) (slice_get-get_or places x filler (omega (arith, known_place by x one, has_room by))) (by.limits x one)
+
+limits_known : {A : Type 0} (x : ℕ) (places : List (ValueRef A)) → IsWithin (said (slice_index_or places x filler)) → IfSome (slice_get places x) (λ b. IsWithin (said b))
+limits_known x places within =
+    elim (slice_get places x) as (λ o. slice_get places x ≡ o → IfSome o (λ b. IsWithin (said b))) [
+      | Some b ↦ λ e. subst (λ c. IsWithin (said c)) (get_or_from_slice_get places x b filler e) within
+      | None ↦ λ _. tt
+    ] refl
 
 -- how many variables a binding has
 pub length_binding : {A : Type 0} (bits n : ℕ) (places : List (ValueRef A)) (binding : List (Option (Value ℕ))) → AreBoundBy bits n places → take n (told_from bits 0 places) ≡ binding → length binding ≡ n
@@ -69,10 +89,6 @@ told_none n places full within = binds_as 0 n places (replicate n None) (none_bo
 told_is : {A : Type 0} (bits n x : ℕ) (places : List (ValueRef A)) (binding : List (Option (Value ℕ))) → AreBoundBy bits n places → take n (told_from bits 0 places) ≡ binding → told (bit_at bits x) (slice_index_or places x filler) ≡ bound_at binding x
 told_is bits n x places binding by same = sym (at_taken bits n places (has_room by) by.behind x) ∙ ap (λ b. bound_at b x) same
 
--- a bit is 0 or 1
-bit_cases : (bits x : ℕ) → (bit_at bits x ≡ 0) ⊎ (bit_at bits x ≡ 1)
-bit_cases bits x = let small : bit_at bits x < 2 = omega arith in grind arith
-
 -- the bits are those of the variables that are bound
 pub known_bits : {A : Type 0} (bits n : ℕ) (places : List (ValueRef A)) (binding : List (Option (Value ℕ))) → AreBoundBy bits n places → take n (told_from bits 0 places) ≡ binding → (x : ℕ) → (bit_at bits x ≡ 1) ↔ IsSome (bound_at binding x)
 known_bits bits n places binding by same x = grind (arith, told_is bits n x places binding by same, bit_cases bits x)
@@ -84,6 +100,14 @@ told_one bits n x places binding by same one = rw one at (told_is bits n x place
 pub told_zero : {A : Type 0} (bits n x : ℕ) (places : List (ValueRef A)) (binding : List (Option (Value ℕ))) → AreBoundBy bits n places → take n (told_from bits 0 places) ≡ binding → (bit_at bits x ≡ 1 → ⊥) → None ≡ bound_at binding x
 told_zero bits n x places binding by same not_one = grind (arith, told_is bits n x places binding by same, bit_cases bits x)
 
+-- what a variable is bound to is within the limits
+pub bound_within : {A : Type 0} (bits n x : ℕ) (places : List (ValueRef A)) (binding : List (Option (Value ℕ))) → AreBoundBy bits n places → take n (told_from bits 0 places) ≡ binding → IfSome (bound_at binding x) (λ a. IsWithin a)
+bound_within bits n x places binding by same =
+    elim (bit_cases bits x) [
+      | inl none ↦ subst (λ o. IfSome o (λ a. IsWithin a)) (told_zero bits n x places binding by same (λ one. omega (arith, none, one))) tt
+      | inr one ↦ subst (λ o. IfSome o (λ a. IsWithin a)) (told_one bits n x places binding by same one) (known_limits by x one)
+    ]
+
 -- a place more is copied
 pub copy_more : {A : Type 0} (i : ℕ) (places copies : List (ValueRef A)) (b : ValueRef A) → i < length copies → b ≡ slice_index_or places i filler → ((x : ℕ) → x < i → slice_index_or copies x filler ≡ slice_index_or places x filler) → (x : ℕ) → x < i + 1 → slice_index_or (slice_set copies i b) x filler ≡ slice_index_or places x filler
 copy_more i places copies b within is before x below = grind (arith, cases_eq x i, before x, get_or-set_same copies i b filler within, get_or-set_other copies i x b filler)
@@ -93,7 +117,7 @@ pub bound_copy : {A : Type 0} (bits n : ℕ) (places copies : List (ValueRef A))
 bound_copy bits n places copies binding by same full at = (now, binds_as bits n copies binding now (length_binding bits n places binding by same) (λ x. alike x ∙ told_is bits n x places binding by same))
   where
     now : AreBoundBy bits n copies
-    now = record { full = full; within = by.within; behind = by.behind }
+    now = record { full = full; within = by.within; behind = by.behind; limits = λ x one. limits_known x copies (subst (λ c. IsWithin (said c)) (sym (at x (known_place by x one))) (known_limits by x one)) }
 
     alike : (x : ℕ) → told (bit_at bits x) (slice_index_or copies x filler) ≡ told (bit_at bits x) (slice_index_or places x filler)
     alike x = grind (arith, bit_cases bits x, by.behind x, at x)
@@ -102,26 +126,30 @@ bound_copy bits n places copies binding by same full at = (now, binds_as bits n 
 pub after_write : {A : Type 0} (bs slice : List (ValueRef A)) (x at : ℕ) (b : ValueRef A) → slice ≡ bs → at ≡ x → refill (length bs) bs (slice_set slice at b) ≡ slice_set bs x b
 after_write bs slice x at b same there = ap₂ (λ s y. refill (length bs) bs (slice_set s y b)) same there ∙ take_at (slice_set bs x b) _ (length bs) (length-set bs x b)
 
-pub bound_write : {A : Type 0} (bits new n x : ℕ) (places : List (ValueRef A)) (b : ValueRef A) → AreBoundBy bits n places → x < n → bit_at new x ≡ 1 → ((y : ℕ) → y ≢ x → bit_at new y ≡ bit_at bits y) → AreBoundBy new n (slice_set places x b)
-bound_write bits new n x places b by lt here others = record {
+pub bound_write : {A : Type 0} (bits new n x : ℕ) (places : List (ValueRef A)) (b : ValueRef A) → AreBoundBy bits n places → x < n → IsWithin (said b) → bit_at new x ≡ 1 → ((y : ℕ) → y ≢ x → bit_at new y ≡ bit_at bits y) → AreBoundBy new n (slice_set places x b)
+bound_write bits new n x places b by lt limit here others = record {
   full = length-set places x b ∙ by.full;
   within = by.within;
   behind = λ y le. others y (λ e. omega (arith, e, le, lt)) ∙ by.behind y le;
+  limits = λ y one. limits_known y (slice_set places x b) (elim (cases_eq y x) [
+    | inl e ↦ subst (λ c. IsWithin (said c)) (sym (ap (λ z. slice_index_or (slice_set places x b) z filler) e ∙ get_or-set_same places x b filler (omega (arith, lt, has_room by)))) limit
+    | inr ne ↦ subst (λ c. IsWithin (said c)) (sym (get_or-set_other places x y b filler ne)) (known_limits by y (sym (others y ne) ∙ one))
+  ]);
 }
 
-pub told_write : {A : Type 0} (bits new n x : ℕ) (places : List (ValueRef A)) (b : ValueRef A) (binding : List (Option (Value ℕ))) (by : AreBoundBy bits n places) (same : take n (told_from bits 0 places) ≡ binding) (lt : x < n) (here : bit_at new x ≡ 1) (others : (y : ℕ) → y ≢ x → bit_at new y ≡ bit_at bits y) → take n (told_from new 0 (slice_set places x b)) ≡ slice_set binding x (Some (said b))
-told_write bits new n x places b binding by same lt here others =
+pub told_write : {A : Type 0} (bits new n x : ℕ) (places : List (ValueRef A)) (b : ValueRef A) (binding : List (Option (Value ℕ))) (by : AreBoundBy bits n places) (same : take n (told_from bits 0 places) ≡ binding) (lt : x < n) (limit : IsWithin (said b)) (here : bit_at new x ≡ 1) (others : (y : ℕ) → y ≢ x → bit_at new y ≡ bit_at bits y) → take n (told_from new 0 (slice_set places x b)) ≡ slice_set binding x (Some (said b))
+told_write bits new n x places b binding by same lt limit here others =
     let len = length_binding bits n places binding by same in
     let place : x < length places = omega (arith, lt, by.full, by.within) in
-    binds_as new n (slice_set places x b) (slice_set binding x (Some (said b))) (bound_write bits new n x places b by lt here others) (length-set binding x (Some (said b)) ∙ len) (λ y.
+    binds_as new n (slice_set places x b) (slice_set binding x (Some (said b))) (bound_write bits new n x places b by lt limit here others) (length-set binding x (Some (said b)) ∙ len) (λ y.
     grind (arith, cases_eq y x, told_is bits n y places binding by same, others y, get_or-set_same places x b filler place, get_or-set_other places x y b filler, get_or-set_same binding x (Some (said b)) None, get_or-set_other binding x y (Some (said b)) None))
 
 -- a value is put at a variable's place
-pub put_at : {A : Type 0} (bits new n x at : ℕ) (places slice : List (ValueRef A)) (b : ValueRef A) (binding : List (Option (Value ℕ))) → AreBoundBy bits n places → take n (told_from bits 0 places) ≡ binding → x < length binding → slice ≡ places → at ≡ x → bit_at new x ≡ 1 → ((y : ℕ) → y ≢ x → bit_at new y ≡ bit_at bits y)
+pub put_at : {A : Type 0} (bits new n x at : ℕ) (places slice : List (ValueRef A)) (b : ValueRef A) (binding : List (Option (Value ℕ))) → AreBoundBy bits n places → take n (told_from bits 0 places) ≡ binding → x < length binding → slice ≡ places → at ≡ x → IsWithin (said b) → bit_at new x ≡ 1 → ((y : ℕ) → y ≢ x → bit_at new y ≡ bit_at bits y)
     → AreBoundBy new n (refill (length places) places (slice_set slice at b)) × (take n (told_from new 0 (refill (length places) places (slice_set slice at b))) ≡ slice_set binding x (Some (said b)))
-put_at bits new n x at places slice b binding by same lt is there here others =
+put_at bits new n x at places slice b binding by same lt is there limit here others =
     let place = is_place bits n places binding x by same lt in
-    rw (after_write places slice x at b is there) (bound_write bits new n x places b by place here others, told_write bits new n x places b binding by same place here others)
+    rw (after_write places slice x at b is there) (bound_write bits new n x places b by place limit here others, told_write bits new n x places b binding by same place limit here others)
 
 -- a binding is the least valuation that extends it
 pub extends_itself : (binding : List (Option (Value ℕ))) → Extends (bound_at binding) binding
@@ -191,6 +219,7 @@ returns_to bits known n places binding before by same are k = (now, binds_as kno
       full = by.full;
       within = by.within;
       behind = λ x le. grind (arith, bit_cases known x, by.behind x, stays x);
+      limits = λ x one. by.limits x (stays x one);
     }
 
     each : (x : ℕ) → (bit_at known x ≡ 0) ⊎ (bit_at known x ≡ 1) → told (bit_at known x) (slice_index_or places x filler) ≡ bound_at before x

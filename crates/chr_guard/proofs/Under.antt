@@ -1,9 +1,10 @@
 -- The atoms that constraints of a rule are under a valuation.
 use Rattle.std.proofs.Common.{◌≡◌, ◌↔◌, ℕ, ◌+◌, ◌<◌, suc, List, [], ◌∷◌, ◌++◌, length, take, drop, map, get_or, Option, Some, None, IsSome, ℤ, subst, refl, sym, ap, ap₂, ◌∙◌, arith, zero, option_map, ◌≤◌, Box, subst₂}
+use Rattle.std.specs.List.{AllByRecursion}
 use Rattle.std.proofs.lemmas.Bool.Decides.{nat_tests}
 use Rattle.std.proofs.lemmas.List.{map-append, map_more, length-map, map_push, drop_all}
 use Rattle.chr_value.specs.Atoms.{Value, Comp, Args, Cons, Atom, Nil, args_of, ground, ground_comp, grounds}
-use Rattle.chr_value.specs.Limits.{IsWithin, depth, size, args_depth, args_size}
+use Rattle.chr_value.specs.Limits.{IsWithin, depth, size, args_depth, args_size, most_depth, most_size}
 use Rattle.chr_value.proofs.Chosen.{some_is}
 use Rattle.chr_rule.specs.Rules.{Term, Var, Given, Open, Terms, End, And, RuleAtom, Expression, Number, Variable, Operation, BodyItem, Is, Add, terms_of}
 use Rattle.chr_rule.specs.Scope.{known_after_term, known_after_terms, known_after_args, known_after_heads}
@@ -52,6 +53,16 @@ none_is_none None h = refl
 -- a value within the limits
 pub limited : (o : Option (Value ℕ)) (a : Value ℕ) → within_limits o ≡ Some a → (o ≡ Some a) × IsWithin a
 limited o a e = grind (arith, nat_tests)
+
+-- the arguments of a functor within the limits are within them
+args_within : (vs : List (Value ℕ)) → args_depth (args_of vs) ≤ most_depth → args_size (args_of vs) ≤ most_size → AllByRecursion IsWithin vs
+args_within [] deep large = tt
+args_within (v ∷ vs) deep large = (record { depth = grind (arith, deep); size = omega (arith, large) }, args_within vs (grind (arith, deep)) (omega (arith, large)))
+
+pub comp_within : {A : Type 0} (c : CodeComp A) (vs : List (CodeValue A)) → vs ≡ c.args.items → IsWithin (ground_comp c) → AllByRecursion IsWithin (grounds vs)
+comp_within c vs is w =
+    subst (λ us. AllByRecursion IsWithin (grounds us)) (sym is)
+    (let deep = w.depth in let large = w.size in args_within (grounds c.args.items) (omega (arith, deep)) (omega (arith, large)))
 
 values_are : (value : Term ℕ → Option (Value ℕ)) (args : List (Term ℕ)) (vs : List (Value ℕ)) → (all_values value args ≡ Some vs) ↔ (map value args ≡ map (λ t. Some t) vs)
 values_are value [] [] = grind arith

@@ -1,7 +1,8 @@
 -- What the variables of a rule are bound to: a list in the order of their numbers.
-use Rattle.std.specs.Prelude.{◌≡◌, ℕ, zero, suc, Bool, true, false, ◌<◌, ◌≤◌, ◌↔◌, List, [], ◌∷◌, length, Option, Some, None, IsSome, slice_index_or}
+use Rattle.std.specs.Prelude.{◌≡◌, ℕ, zero, suc, Bool, true, false, ◌<◌, ◌≤◌, ◌↔◌, List, [], ◌∷◌, length, Option, Some, None, IsSome, IfSome, slice_index_or, slice_get}
 use Rattle.std.specs.Int.{bit_at}
 use Rattle.chr_value.specs.Atoms.{Value, said}
+use Rattle.chr_value.specs.Limits.{IsWithin}
 use Rattle.chr_value.specs.declared.value.ValueRef.{ValueRef}
 use Rattle.chr_rule.specs.Rules.{Expression, Number, Variable, Operation, Comparison, Compared, Same, Differ}
 use Rattle.chr_guard.specs.declared.binding.Known.{Known}
@@ -21,11 +22,13 @@ abbrev pub told_from : {A : Type 0} → ℕ → ℕ → List (ValueRef A) → Li
 told_from bits x [] = []
 told_from bits x (b ∷ places) = told (bit_at bits x) b ∷ told_from bits (suc x) places
 
--- There are 24 places. The bits of this many variables say which are bound, and those behind are 0.
+-- There are 24 places. The bits of this many variables say which are bound, each to a value within
+-- the limits, and those behind are 0.
 pub record AreBoundBy {A : Type 0} (bits variables : ℕ) (places : List (ValueRef A)) : Type 0 where
   pub full : length places ≡ 24
   pub within : variables ≤ 24
   pub behind : (x : ℕ) → variables ≤ x → bit_at bits x ≡ 0
+  pub limits : (x : ℕ) → bit_at bits x ≡ 1 → IfSome (slice_get places x) (λ b. IsWithin (said b))
 
 -- the valuation gives each bound variable its value
 abbrev pub Extends : Valuation → List (Option (Value ℕ)) → Type 0

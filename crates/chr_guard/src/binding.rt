@@ -1,8 +1,9 @@
 //! What the variables of a rule are bound to.
-ghost use Rattle.std.specs.Prelude.{◌≡◌, ◌≢◌, ◌<◌, ◌≤◌, ◌↔◌, ℕ, List, Option, IsTrue, Some, None, IsSome, length, replicate, slice_set};
+ghost use Rattle.std.specs.Prelude.{◌≡◌, ◌≢◌, ◌<◌, ◌≤◌, ◌↔◌, ℕ, List, Option, IsTrue, Some, None, IsSome, IfSome, length, replicate, slice_set};
 ghost use Rattle.std.specs.Int.{bit_at};
 ghost use Rattle.std.specs.Option.{option_map};
 ghost use Rattle.chr_value.specs.Atoms.{said, Int, Value};
+ghost use Rattle.chr_value.specs.Limits.{IsWithin};
 ghost use Rattle.chr_guard.specs.Bindings.{bound_at, NarrowsIf, Keeps, AreKnown, AreBound};
 
 use arrayvec::ArrayVec;
@@ -41,8 +42,8 @@ impl Known {
     }
 }
 
-/// What the variables of a rule are bound to, at most 24. Numbers and symbols are its own, and compound values lie in the
-/// atoms at the rule's heads. It takes no memory.
+/// What the variables of a rule are bound to, at most 24: values within the limits. Numbers and symbols are its own, and
+/// compound values lie in the atoms at the rule's heads. It takes no memory.
 #[derive(Drop)]
 pub struct Binding<'v, A: Allocator> {
     /// Says nothing of a variable that isn't known.
@@ -124,10 +125,19 @@ impl<'v, A: Allocator + Copy> Binding<'v, A> {
     pub fn at(&self, variable: u8) -> Option<ValueRef<'v, A>>
         ensures { option_map said result ≡ bound_at self.now variable }
     {
-        if self.variables <= usize::from(variable) || !self.known.has(variable) {
+        if !self.is_bound(variable) {
             return None;
         }
         Some(self.bound(variable))
+    }
+
+    /// Whether a variable is bound. What it is bound to is within the limits of values.
+    #[inline(always)]
+    pub(crate) fn is_bound(&self, variable: u8) -> bool
+        ensures bound { IsTrue result ↔ IsSome (bound_at self.now variable) }
+        ensures limits { IfSome (bound_at self.now variable) (λ a. IsWithin a) }
+    {
+        usize::from(variable) < self.variables && self.known.has(variable)
     }
 
     /// How many of the first variables are bound, without a free one among them.
@@ -150,7 +160,8 @@ impl<'v, A: Allocator + Copy> Binding<'v, A> {
     /// Binds a variable anew.
     #[inline(always)]
     pub(crate) fn put(&mut self, variable: u8, value: ValueRef<'v, A>)
-        requires { variable < length self.old }
+        requires place { variable < length self.old }
+        requires within { IsWithin (said value) }
         ensures { self.new ≡ slice_set self.old variable (Some (said value.entry)) }
     {
         self.bound[usize::from(variable)] = value;
@@ -160,7 +171,8 @@ impl<'v, A: Allocator + Copy> Binding<'v, A> {
     /// Binds a variable to a value. Where it is bound already, answers whether it is bound to this one.
     #[inline(always)]
     pub(crate) fn hold(&mut self, variable: u8, value: ValueRef<'v, A>) -> bool
-        requires { variable < length self.old }
+        requires place { variable < length self.old }
+        requires within { IsWithin (said value) }
         ensures narrows { NarrowsIf (λ v. v variable ≡ Some (said value.entry)) result self.old self.new }
         ensures keeps { Keeps self.old self.new }
     {

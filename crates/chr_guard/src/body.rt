@@ -63,12 +63,12 @@ fn all_made<A: Allocator + Copy>(
     Ok(Some(values))
 }
 
-/// A compound value that a term stands for, which is counted before it is made. None where there is none within the
-/// limits. An `Err` is E01.
-fn counted<A: Allocator + Copy>(alloc: A, term: &Term<A>, binding: &Binding<'_, A>) -> Made<A>
+/// A compound value that a term stands for, which is counted before it is made unless a variable is bound to it. None
+/// where there is none within the limits. An `Err` is E01.
+fn made_compound<A: Allocator + Copy>(alloc: A, term: &Term<A>, binding: &Binding<'_, A>) -> Made<A>
     ensures { IfOk result (λ made. option_map ground made ≡ value_under (bound_at binding.now) (argument term.now)) }
 {
-    if !binding.is_within(term) {
+    if !binding.has_value(term) {
         return Ok(None);
     }
     made(alloc, term, binding)
@@ -83,13 +83,13 @@ fn made_argument<A: Allocator + Copy>(alloc: A, term: &Term<A>, binding: &Bindin
     match binding.plain(term) {
         Some(Plain::Number(n)) => Ok(Some(Value::Int(n))),
         Some(Plain::Symbol(name)) => Ok(Some(Value::Sym(name))),
-        None => counted(alloc, term, binding),
+        None => made_compound(alloc, term, binding),
     }
 }
 
-/// Adds the arguments of a constraint of a body to an atom of its name that has none: each is counted before it is
-/// made. False where one has no value within the limits. Then, and on an `Err`, which is E01, the atom may have some of
-/// them. Only compound values and arguments from the fourth on take memory.
+/// Adds the arguments of a constraint of a body to an atom of its name that has none. None is made that is past the
+/// limits. False where one has no value within them. Then, and on an `Err`, which is E01, the atom may have some of the
+/// arguments. Only compound values and arguments from the fourth on take memory.
 #[inline(always)]
 pub fn add_arguments<A: Allocator + Copy>(
     alloc: A,

@@ -2,6 +2,7 @@
 ghost use Rattle.std.specs.Prelude.{◌≡◌, ◌<◌, ◌≤◌, true, Some, length, map, slice_get, MatchOption};
 ghost use Rattle.std.specs.List.{list_all, AllByRecursion};
 ghost use Rattle.chr_value.specs.Atoms.{ground, said};
+ghost use Rattle.chr_value.specs.Limits.{IsWithin};
 ghost use Rattle.chr_rule.specs.Parts.{argument, shape};
 ghost use Rattle.chr_rule.specs.Scope.{argument_known};
 ghost use Rattle.chr_guard.specs.Values.{term_under};
@@ -23,7 +24,8 @@ pub(crate) fn fit_term<'v, A: Allocator + Copy>(
     term: &Term<A>,
     value: ValueRef<'v, A>,
 ) -> bool
-    requires { argument_known (length binding.old) (argument term.now) ≡ true }
+    requires known { argument_known (length binding.old) (argument term.now) ≡ true }
+    requires within { IsWithin (said value) }
     ensures narrows { NarrowsIf (λ v. term_under v (argument term.now) ≡ Some (said value.entry)) result binding.old binding.new }
     ensures keeps { Keeps binding.old binding.new }
 {
@@ -49,7 +51,8 @@ fn fit_terms<'v, A: Allocator + Copy>(
     terms: &[Term<A>],
     values: &'v [Value<A>],
 ) -> bool
-    requires { list_all (argument_known (length binding.old)) (map argument terms.now) ≡ true }
+    requires known { list_all (argument_known (length binding.old)) (map argument terms.now) ≡ true }
+    requires within { AllByRecursion IsWithin (map ground values.now) }
     ensures narrows { NarrowsIf (λ v. map (term_under v) (map argument terms.now) ≡ map (λ t. Some (ground t)) values.now) result binding.old binding.new }
     ensures keeps { Keeps binding.old binding.new }
 {
@@ -69,7 +72,8 @@ fn fit_terms<'v, A: Allocator + Copy>(
 fn arg_of<'v, A: Allocator + Copy>(atom: &'v Atom<A>, index: usize, is_own: bool) -> ValueRef<'v, A>
     requires within { index < length atom.now.args }
     requires own { is_own ≡ true → index < 3 }
-    ensures { Some (said result) ≡ slice_get atom.now.args index }
+    ensures value { Some (said result) ≡ slice_get atom.now.args index }
+    ensures within { IsWithin (said result) }
 {
     if is_own {
         atom.own_arg_at(index)

@@ -100,20 +100,32 @@ impl<'v, A: Allocator + Copy> Binding<'v, A> {
         Some(rest)
     }
 
-    /// Whether a term has a value within the limits.
-    pub(crate) fn is_within(&self, term: &Term<A>) -> bool
+    /// Whether a term has a value within the limits, by a count of it.
+    fn is_within(&self, term: &Term<A>) -> bool
         ensures { IsTrue result ↔ IsSome (value_under (bound_at self.now) (argument term.now)) }
     {
         self.left(term, MOST_DEPTH, MOST_SIZE).is_some()
     }
 
-    /// Whether each argument of a constraint has a value within the limits. Only compound values are counted.
+    /// Whether a term has a value within the limits. What a variable is bound to always is within them.
+    #[inline(always)]
+    pub(crate) fn has_value(&self, term: &Term<A>) -> bool
+        ensures { IsTrue result ↔ IsSome (value_under (bound_at self.now) (argument term.now)) }
+    {
+        match term {
+            Term::Var(x) => self.is_bound(*x),
+            Term::Given(Value::Int(_)) | Term::Given(Value::Sym(_)) => true,
+            Term::Given(Value::Comp(_)) | Term::Open(_) => self.is_within(term),
+        }
+    }
+
+    /// Whether each argument of a constraint has a value within the limits.
     #[inline(always)]
     pub(crate) fn has_values(&self, pattern: &RuleAtom<A>) -> bool
         ensures { IsTrue result ↔ IsSome (made_under (bound_at self.now) (shape pattern.now)) }
     {
         for term in &pattern.terms {
-            if self.plain(term).is_none() && !self.is_within(term) {
+            if !self.has_value(term) {
                 return false;
             }
         }
@@ -205,7 +217,7 @@ impl<'v, A: Allocator + Copy> Binding<'v, A> {
     {
         match (self.plain(s), self.plain(t)) {
             (Some(a), Some(b)) => same_plain(a, b),
-            _ => self.is_within(s) && self.same(s, t),
+            _ => self.has_value(s) && self.same(s, t),
         }
     }
 
@@ -216,7 +228,7 @@ impl<'v, A: Allocator + Copy> Binding<'v, A> {
     {
         match (self.plain(s), self.plain(t)) {
             (Some(a), Some(b)) => !same_plain(a, b),
-            _ => self.is_within(s) && self.is_within(t) && !self.same(s, t),
+            _ => self.has_value(s) && self.has_value(t) && !self.same(s, t),
         }
     }
 }

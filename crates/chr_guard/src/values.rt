@@ -31,7 +31,7 @@ fn are_bound<A: Allocator + Copy>(expr: &Expr<A>, binding: &Binding<'_, A>) -> b
 {
     match expr {
         Expr::Number(_) => true,
-        Expr::Var(x) => binding.at(*x).is_some(),
+        Expr::Var(x) => binding.is_bound(*x),
         Expr::Operation(_, a, b) => are_bound(a, binding) && are_bound(b, binding),
     }
 }

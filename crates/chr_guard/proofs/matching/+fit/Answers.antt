@@ -1,12 +1,14 @@
 use Rattle.std.proofs.Common.{◌≡◌, ◌<◌, ◌+◌, ◌*◌, length, map, Some, arith, sym, ap, subst, ◌∙◌}
 use Rattle.chr_value.specs.Atoms.{ground, ground_comp, said}
+use Rattle.chr_value.specs.Limits.{IsWithin}
+use Rattle.chr_value.proofs.Places.{all-at}
 use Rattle.chr_rule.specs.Parts.{argument}
 use Rattle.chr_rule.specs.Scope.{argument_known}
 use Rattle.chr_guard.specs.Values.{Valuation, term_under}
 use Rattle.chr_guard.specs.Bindings.{Narrows, NoneUnder, NarrowsIf}
 use Rattle.chr_rule.specs.declared.term.Open.{Open as CodeOpen}
 use Rattle.chr_guard.proofs.Steps.{known_read, read_more, read_stop, read_end}
-use Rattle.chr_guard.proofs.Under.{term_weight, weights, weight-at, weight-parts, under-open}
+use Rattle.chr_guard.proofs.Under.{term_weight, weights, weight-at, weight-parts, under-open, comp_within}
 use Rattle.chr_rule.proofs.Levels.{argument-Var, known-parts}
 use Rattle.chr_guard.proofs.Matched.{told_as}
 use Rattle.chr_guard.proofs.Bindings.{keeps_both, narrows_keeps}
@@ -20,7 +22,9 @@ pub fit_term-fit_terms-requires : goal.fit_term-fit_terms-requires
 fit_term-fit_terms-requires g t c κs within =
     let are = c.deref-in-Comp-2.ensures.value ∙ ap (λ (k : CodeOpen _). k.args.items) c.deref-in-Comp.ensures in
     let less : 2 * weights (map argument c.deref-in-Comp-2.result.now) + 1 < 2 * term_weight (argument c.args.term.now) = omega (arith, weight-parts _ c.in-Open.open c.deref-in-Comp-2.result.now c.in-Open.is are) in
-    (subst (λ n. 2 * weights (map argument c.deref-in-Comp-2.result.now) + 1 < n) c.decreases less, (within, (omega arith, known-parts _ c.in-Open.open c.deref-in-Comp-2.result.now c.in-Open.is are (length c.args.binding.now) ∙ c.requires)))
+    let known = known-parts _ c.in-Open.open c.deref-in-Comp-2.result.now c.in-Open.is are (length c.args.binding.now) ∙ c.requires.known in
+    let limits = comp_within c.in-Comp.comp.now c.deref-in-Comp-3.result.now c.deref-in-Comp-3.ensures.value (subst IsWithin (ap said c.in-Comp.is) c.requires.within) in
+    (subst (λ n. 2 * weights (map argument c.deref-in-Comp-2.result.now) + 1 < n) c.decreases less, (within, (omega arith, (known, limits))))
 
 pub fit_term-returns-else-deref-comp-clause-narrows : goal.fit_term-returns-else-deref-comp-clause-narrows
 fit_term-returns-else-deref-comp-clause-narrows g t c =
@@ -37,7 +41,9 @@ fit_terms-fit_term-requires g t c κs within =
     let here : c.loop-i.i < length terms = omega arith in
     let term = c.index-terms-i.result in
     let less : 2 * term_weight (argument term) < 2 * weights (map argument terms) + 1 = omega (arith, weight-at terms c.loop-i.i term here c.index-terms-i.is) in
-    (subst (λ m. 2 * term_weight (argument term) < m) c.decreases less, (within, (omega arith, ap (λ m. argument_known m (argument term)) c.loop-i.invariant.places ∙ known_read (argument_known (length c.args.binding.now)) argument terms c.loop-i.i term here c.index-terms-i.is c.requires)))
+    let known = ap (λ m. argument_known m (argument term)) c.loop-i.invariant.places ∙ known_read (argument_known (length c.args.binding.now)) argument terms c.loop-i.i term here c.index-terms-i.is c.requires.known in
+    let limits = subst IsWithin (sym c.as_ref.ensures) (all-at ground IsWithin c.args.values.now c.loop-i.i c.index-values-i.result (omega arith) c.index-values-i.is c.requires.within) in
+    (subst (λ m. 2 * term_weight (argument term) < m) c.decreases less, (within, (omega arith, (known, limits))))
 
 pub fit_terms-returns-then-not-fit_term-clause-narrows : goal.fit_terms-returns-then-not-fit_term-clause-narrows
 fit_terms-returns-then-not-fit_term-clause-narrows g t c =

@@ -15,7 +15,8 @@ arg_of-requires-clause-within g c = omega (arith, c.loop-i-test.true, take_each 
 pub put-requires : goal.put-requires
 put-requires g c =
     let count = take_each c.args.binding.now c.args.terms.now c.args.atom.now.args c.requires.values in
-    (omega arith, taking_within c.args.terms.now c.args.atom.now.args c.loop-i.i c.index-terms-i.result c.args.binding.now c.loop-i.binding c.loop-i-test.true count c.index-terms-i.is c.requires.known c.loop-i.invariant c.in-Var.x c.in-Var.is)
+    let place = taking_within c.args.terms.now c.args.atom.now.args c.loop-i.i c.index-terms-i.result c.args.binding.now c.loop-i.binding c.loop-i-test.true count c.index-terms-i.is c.requires.known c.loop-i.invariant c.in-Var.x c.in-Var.is in
+    (omega arith, (place, c.arg_of.ensures.within))
 
 pub loop-i-preserved : goal.loop-i-preserved
 loop-i-preserved g c =
@@ -24,7 +25,7 @@ loop-i-preserved g c =
     elim c.match-terms-i.branch [
       | in-Var w ↦
           let value = said w.arg_of.result in
-          let at : value ≡ get_or values c.loop-i.i value = sym (get_or_from_slice_get values c.loop-i.i value value (sym w.arg_of.ensures)) in
+          let at : value ≡ get_or values c.loop-i.i value = sym (get_or_from_slice_get values c.loop-i.i value value (sym w.arg_of.ensures.value)) in
           rw w.binding-is (taking_put c.args.terms.now values c.loop-i.i c.index-terms-i.result c.args.binding.now c.loop-i.binding c.loop-i-test.true count c.index-terms-i.is c.requires.known c.loop-i.invariant w.in-Var.x value w.put.new.self w.in-Var.is at w.put.ensures)
       | in_default w ↦
           rw w.binding-is (taking_past c.args.terms.now values c.loop-i.i c.index-terms-i.result c.args.binding.now c.loop-i.binding c.loop-i-test.true count c.index-terms-i.is c.requires.known c.loop-i.invariant w.in_default.not-Var)

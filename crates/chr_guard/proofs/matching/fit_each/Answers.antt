@@ -10,20 +10,21 @@ use Rattle.chr_guard.proofs.matching.fit_each.Goals as goal
 
 pub fit_term-requires : goal.fit_term-requires
 fit_term-requires g c =
-    (omega arith, ap (λ m. argument_known m (argument c.index-terms-i.result)) c.loop-i.invariant.places ∙ known_read (argument_known (length c.args.binding.now)) argument c.args.terms.now c.loop-i.i _ c.loop-i-test.true c.index-terms-i.is c.requires.known)
+    let known = ap (λ m. argument_known m (argument c.index-terms-i.result)) c.loop-i.invariant.places ∙ known_read (argument_known (length c.args.binding.now)) argument c.args.terms.now c.loop-i.i _ c.loop-i-test.true c.index-terms-i.is c.requires.known in
+    (omega arith, (known, c.arg_of.ensures.within))
 
 pub returns-then-not-fit_term-clause-narrows : goal.returns-then-not-fit_term-clause-narrows
 returns-then-not-fit_term-clause-narrows g c =
     let values = c.args.atom.now.args in
     let value = said c.arg_of.result in
-    let there : value ≡ get_or values c.loop-i.i value = sym (get_or_from_slice_get values c.loop-i.i value value (sym c.arg_of.ensures)) in
+    let there : value ≡ get_or values c.loop-i.i value = sym (get_or_from_slice_get values c.loop-i.i value value (sym c.arg_of.ensures.value)) in
     read_stop term_under argument (λ t. Some t) c.args.terms.now values c.loop-i.i c.index-terms-i.result value c.loop-i-test.true (omega arith) c.index-terms-i.is there c.args.binding.now c.loop-i.binding c.loop-i.invariant (c.if-not-fit_term.ensures.narrows)
 
 pub loop-i-preserved : goal.loop-i-preserved
 loop-i-preserved g c =
     let values = c.args.atom.now.args in
     let value = said c.arg_of.result in
-    let there : value ≡ get_or values c.loop-i.i value = sym (get_or_from_slice_get values c.loop-i.i value value (sym c.arg_of.ensures)) in
+    let there : value ≡ get_or values c.loop-i.i value = sym (get_or_from_slice_get values c.loop-i.i value value (sym c.arg_of.ensures.value)) in
     read_more term_under argument (λ t. Some t) c.args.terms.now values c.loop-i.i c.index-terms-i.result value c.loop-i-test.true (omega arith) c.index-terms-i.is there c.args.binding.now c.loop-i.binding c.fit_term.new.binding c.loop-i.invariant (c.if-not-fit_term.ensures.narrows)
 
 pub returns-clause-narrows : goal.returns-clause-narrows

@@ -10,7 +10,7 @@ pub returns-then-not-has : goal.returns-then-not-has
 returns-then-not-has g c =
     let old = c.args.self.now in
     let none = told_zero c.self.inside.known.bits c.self.inside.variables c.args.variable c.self.inside.bound.items old c.self.invariant c.self.view_is (λ one. (let z : false ≡ true = sym c.if-not-has.true ∙ c.has.ensures.1 one in cc)) in
-    let narrows = subst (NarrowsIf (λ v. v c.args.variable ≡ Some (said c.args.value)) true old) (sym c.put.ensures) (told_new old c.args.variable (said c.args.value) c.requires (sym none)) in
+    let narrows = subst (NarrowsIf (λ v. v c.args.variable ≡ Some (said c.args.value)) true old) (sym c.put.ensures) (told_new old c.args.variable (said c.args.value) c.requires.place (sym none)) in
     record { narrows = narrows; keeps = narrows_keeps (λ v. v c.args.variable ≡ Some (said c.args.value)) old c.put.new.self narrows }
 
 pub returns : goal.returns

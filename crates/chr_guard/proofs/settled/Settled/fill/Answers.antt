@@ -13,12 +13,12 @@ loop-variable-init g c = filling_start (map mark_view c.deref-mark-items.result.
 pub put-requires : goal.put-requires
 put-requires g c =
     let marks : length c.args.self.now ≡ length c.deref-mark-items.result.now = sym (ap length c.self.view_is) ∙ length-map c.self.inside.marks.items mark_view ∙ sym (ap length c.deref-mark-items.ensures.value) in
-    (omega (arith, marks, c.loop-variable-test.true), omega (arith, marks, c.loop-variable-test.true, c.loop-variable.invariant.places))
+    (omega (arith, marks, c.loop-variable-test.true), (omega (arith, marks, c.loop-variable-test.true, c.loop-variable.invariant.places), record { depth = omega arith; size = omega arith }))
 
 pub put-requires-in-Symbol : goal.put-requires-in-Symbol
 put-requires-in-Symbol g c =
     let marks : length c.args.self.now ≡ length c.deref-mark-items.result.now = sym (ap length c.self.view_is) ∙ length-map c.self.inside.marks.items mark_view ∙ sym (ap length c.deref-mark-items.ensures.value) in
-    (omega (arith, marks, c.loop-variable-test.true), omega (arith, marks, c.loop-variable-test.true, c.loop-variable.invariant.places))
+    (omega (arith, marks, c.loop-variable-test.true), (omega (arith, marks, c.loop-variable-test.true, c.loop-variable.invariant.places), record { depth = omega arith; size = omega arith }))
 
 pub loop-variable-preserved : goal.loop-variable-preserved
 loop-variable-preserved g c =
