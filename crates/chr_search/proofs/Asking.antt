@@ -17,7 +17,7 @@ use Rattle.chr_guard.specs.Bindings.{bound_at, Extends, NarrowsIf}
 use Rattle.chr_guard.specs.Instances.{atom_under}
 use Rattle.chr_guard.proofs.Bindings.{free_extends}
 use Rattle.chr_model.specs.Stores.{atom_at, among}
-use Rattle.chr_plan.specs.Orders.{heads_of}
+use Rattle.chr_plan.specs.Orders.{heads_of, first_step}
 use Rattle.chr_plan.specs.declared.order.Step.{Step}
 use Rattle.chr_store.specs.Labels.{GivenBefore}
 use Rattle.chr_search.specs.Tree.{Grows}
@@ -115,13 +115,13 @@ asked j labels binding from a key after next some r f k e g = record {
 }
 
 -- the active label may begin
-pub begins_by : (j : Join) (h : ℕ) (head : RuleAtom ℕ) (atom : Atom ℕ) → slice_get j.order 0 ≡ Some (record { head = h; key = None }) → head_at j.rule h ≡ Some head → atom_at j.store j.active ≡ Some atom → HasHeadPred head atom → MayFollow j [] j.active
-begins_by j h head atom at is live pred = follows_live j [] j.active refl tt (λ x. None) tt (record { head = h; key = None }) at (record { head = head; head_is = is; atom = atom; live = live; pred = pred }) tt
+pub begins_by : (j : Join) (h : ℕ) (head : RuleAtom ℕ) (atom : Atom ℕ) → slice_get j.order 0 ≡ Some (first_step (heads_of j.rule) h) → head_at j.rule h ≡ Some head → atom_at j.store j.active ≡ Some atom → HasHeadPred head atom → MayFollow j [] j.active
+begins_by j h head atom at is live pred = follows_live j [] j.active refl tt (λ x. None) tt (first_step (heads_of j.rule) h) at (record { head = head; head_is = is; atom = atom; live = live; pred = pred }) tt
 
 pub begins_if : (j : Join) → HasPlan j → (step : Step) (head : RuleAtom ℕ) (atom : Atom ℕ) → slice_get j.order 0 ≡ Some step → head_at j.rule step.head ≡ Some head → atom_at j.store j.active ≡ Some atom → HasHeadPred head atom → MayFollow j [] j.active
 begins_if j p step head atom at is live pred =
-    let first : slice_get j.order 0 ≡ Some (record { head = p.head; key = None }) = ap (λ (z : List Step). slice_get z 0) p.plan.first in
-    let same : step ≡ record { head = p.head; key = None } = some_is step (record { head = p.head; key = None }) (sym at ∙ first) in
+    let first : slice_get j.order 0 ≡ Some (first_step (heads_of j.rule) p.head) = ap (λ (z : List Step). slice_get z 0) p.plan.first in
+    let same : step ≡ first_step (heads_of j.rule) p.head = some_is step (first_step (heads_of j.rule) p.head) (sym at ∙ first) in
     begins_by j p.head head atom first (subst (λ (x : Step). head_at j.rule x.head ≡ Some head) same is) live pred
 
 pub begins_pred : (j : Join) (step : Step) (head : RuleAtom ℕ) (atom : Atom ℕ) → slice_get j.order 0 ≡ Some step → head_at j.rule step.head ≡ Some head → atom_at j.store j.active ≡ Some atom → MayFollow j [] j.active → HasHeadPred head atom

@@ -8,7 +8,7 @@ use Rattle.chr_guard.specs.Values.{Valuation, term_under}
 use Rattle.chr_guard.specs.Instances.{atom_under}
 use Rattle.chr_guard.proofs.Under.{atom_is}
 use Rattle.chr_model.specs.Stores.{atom_at, Distinct}
-use Rattle.chr_plan.specs.Orders.{heads_of, IsPlan}
+use Rattle.chr_plan.specs.Orders.{heads_of, first_step, IsPlan}
 use Rattle.chr_plan.specs.declared.order.Step.{Step}
 use Rattle.chr_search.specs.Trials.{IsLiveFor, Join, StandsAt, Fit, HasHeadPred, given_at, HasKeyValue, IsInTurn, MayFollow}
 use Rattle.chr_search.proofs.Plans.{given_is, stands_head, step_key_given}
@@ -36,7 +36,7 @@ follows_at j h p v ls l turn d step at f s =
   where
     known : (before : List ℕ) → Fit j v j.order before → slice_get j.order (length before) ≡ Some step → (head : RuleAtom ℕ) → head_at j.rule step.head ≡ Some head → (place : ℕ) → step.key ≡ Some place → (value : Value ℕ) × (given_at v head place ≡ Some value)
     known [] g at head is place k =
-        let first : step ≡ record { head = h; key = None } = some_is step (record { head = h; key = None }) (sym at ∙ ap (λ (z : List Step). slice_get z 0) p.first) in
+        let first : step ≡ first_step (heads_of j.rule) h = some_is step (first_step (heads_of j.rule) h) (sym at ∙ ap (λ (z : List Step). slice_get z 0) p.first) in
         let n : None ≡ Some place = sym (ap (λ (y : Step). y.key) first) ∙ k in
         absurd (cc)
     known (y ∷ before) g at head is place k = step_key_given j h v (y ∷ before) step head place p (omega arith) g at is k

@@ -7,6 +7,7 @@ pub mod Descents
 pub mod Reaches
 pub mod Shrinking
 pub mod Asking
+pub mod Fresh
 pub mod Judging
 pub mod Making
 pub mod Placing

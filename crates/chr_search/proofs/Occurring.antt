@@ -6,6 +6,7 @@ use Rattle.chr_value.proofs.Chosen.{some_is}
 use Rattle.chr_rule.specs.Rules.{Simpagation, head_at}
 use Rattle.chr_rule.specs.Occurrences.{IsOccurrence, AtOrAfter, NoneFrom, IsNextOccurrence}
 use Rattle.chr_model.specs.Stores.{atom_at}
+use Rattle.chr_plan.specs.Orders.{heads_of, first_step}
 use Rattle.chr_plan.specs.Plans.{plan_at, ArePlans}
 use Rattle.chr_plan.specs.declared.order.Step.{Step}
 use Rattle.chr_search.specs.Positions.{at_or_after}
@@ -30,7 +31,7 @@ trial_occurs s p a ps r h (l ∷ ls) i =
     let rule = c.0 in
     let m = c.3 in
     let q = planned s.rules s.plans ps r h rule c.1 c.2.rule_is c.2.order_is in
-    let first : Step = record { head = h; key = None } in
+    let first : Step = first_step (heads_of rule) h in
     let step : m.step ≡ first = some_is m.step first (sym m.step_is ∙ ap (λ (z : List Step). slice_get z 0) q.plan.first) in
     let live : atom_at s.store s.active ≡ Some m.atom = subst (λ x. atom_at s.store x ≡ Some m.atom) m.turn m.live in
     let pred : HasHeadPred m.head a.atom = subst (HasHeadPred m.head) (some_is m.atom a.atom (sym live ∙ a.live)) m.pred in

@@ -52,7 +52,7 @@ pub no_step : (j : Join) (labels : List ℕ) (l x : ℕ) → length j.order ≤ 
 no_step j labels l x past m = omega (arith, slice_get_within j.order (length (labels ++ l ∷ [])) m.step m.step_is, length-append labels (l ∷ []))
 
 -- the keys that a binding gives are those of the valuations that extend it
-keyed_grows : (v : Valuation) (binding : List (Option (Value ℕ))) → Extends v binding → (head : RuleAtom ℕ) (place : ℕ) (x : Value ℕ) → keyed_at (bound_at binding) head place ≡ Some x → keyed_at v head place ≡ Some x
+pub keyed_grows : (v : Valuation) (binding : List (Option (Value ℕ))) → Extends v binding → (head : RuleAtom ℕ) (place : ℕ) (x : Value ℕ) → keyed_at (bound_at binding) head place ≡ Some x → keyed_at v head place ≡ Some x
 keyed_grows v binding e head zero x g = g
 keyed_grows v binding e head (suc i) x g = by_term (slice_get head.args i) g
   where

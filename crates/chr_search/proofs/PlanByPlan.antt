@@ -5,7 +5,7 @@ use Rattle.std.proofs.lemmas.Option.{slice_get_within}
 use Rattle.chr_value.specs.Atoms.{Value, Atom}
 use Rattle.chr_rule.specs.Rules.{RuleAtom, Simpagation, head_at}
 use Rattle.chr_model.specs.Stores.{atom_at}
-use Rattle.chr_plan.specs.Orders.{heads_of}
+use Rattle.chr_plan.specs.Orders.{heads_of, first_step}
 use Rattle.chr_plan.specs.Plans.{ArePlans}
 use Rattle.chr_plan.specs.declared.order.Step.{Step}
 use Rattle.chr_store.specs.Labels.{LabelledStore, IsLabelled}
@@ -192,7 +192,7 @@ joins_at s r h j head atom ps k is live pred =
       planned = k.planned;
       is = k.is;
       plan = k.plan;
-      begins = subst (λ (x : Join). MayFollow x [] x.active) (sym k.is) (begins_if (join_in s j.rule j.order) plan (record { head = h; key = None }) head atom (ap (λ (z : List Step). slice_get z 0) q.plan.first) is live pred);
+      begins = subst (λ (x : Join). MayFollow x [] x.active) (sym k.is) (begins_if (join_in s j.rule j.order) plan (first_step (heads_of j.rule) h) head atom (ap (λ (z : List Step). slice_get z 0) q.plan.first) is live pred);
     }
 
 -- a search that has come to a join

@@ -14,10 +14,10 @@ use Rattle.chr_guard.specs.Values.{Valuation, term_under, terms_under, key_under
 use Rattle.chr_guard.specs.Instances.{atom_under}
 use Rattle.chr_guard.proofs.Under.{atom_is}
 use Rattle.chr_guard.proofs.Steps.{all_push}
-use Rattle.chr_plan.specs.Orders.{heads_of, head_in, stands_in, stands_among, has_variable, binds, is_bound, is_known, key_in, is_named, IsNext, EachNext, IsPlan}
+use Rattle.chr_plan.specs.Orders.{heads_of, head_in, stands_in, stands_among, has_variable, binds, is_bound, is_known, key_in, is_named, IsNext, EachNext, first_step, IsPlan}
 use Rattle.chr_plan.specs.Plans.{PlanList, orders_at, order_in, plan_at, AreOrders, ArePlans}
 use Rattle.chr_plan.specs.declared.order.Step.{Step}
-use Rattle.chr_plan.proofs.Planning.{opens, start, any_push, Planning, planning_start, planning_push}
+use Rattle.chr_plan.proofs.Planning.{opens, any_push, Planning, planning_start, planning_push}
 use Rattle.chr_plan.proofs.OnePlan.{names_each_fact, each_next_fact}
 use Rattle.chr_store.specs.Keys.{arg_at}
 use Rattle.chr_model.specs.Stores.{among, Distinct}
@@ -71,7 +71,7 @@ no_opens (suc n) order f =
 -- What an order of a rule's heads has: that head first, and each head once.
 pub record IsOrder (heads : List (RuleAtom ℕ)) (h : ℕ) (order : List Step) : Type 0 where
   pub rest : List Step
-  pub first : order ≡ record { head = h; key = None } ∷ rest
+  pub first : order ≡ first_step heads h ∷ rest
   pub within : AllByRecursion (IsWithin (length heads)) order
   pub distinct : Distinct (heads_in order)
   pub named : (j : ℕ) → 1 ≤ j → j ≤ length heads → among (heads_in order) j ≡ true
@@ -79,8 +79,8 @@ pub record IsOrder (heads : List (RuleAtom ℕ)) (h : ℕ) (order : List Step) :
 
 pub order_of_plan : (heads : List (RuleAtom ℕ)) (h : ℕ) (order : List Step) → 1 ≤ h → h ≤ length heads → IsPlan heads h order → IsOrder heads h order
 order_of_plan heads h order low high p =
-    let begun : IsGrowing heads h (start h ∷ []) = record { within = ((low, high), tt); distinct = (refl, tt); planning = planning_start heads h (is_bound heads (start h ∷ [])) low high (λ x. refl) } in
-    let all : IsGrowing heads h order = subst (IsGrowing heads h) (sym p.first) (grown_all heads h (start h ∷ []) p.rest begun p.next) in
+    let begun : IsGrowing heads h (first_step heads h ∷ []) = record { within = ((low, high), tt); distinct = (refl, tt); planning = planning_start heads h (is_bound heads (first_step heads h ∷ [])) low high (λ x. refl) } in
+    let all : IsGrowing heads h order = subst (IsGrowing heads h) (sym p.first) (grown_all heads h (first_step heads h ∷ []) p.rest begun p.next) in
     let named = names_each_fact heads h order p in
     record {
       rest = p.rest;

@@ -1,5 +1,5 @@
 -- Each labelled instance whose labels are the active one and others below the bound is in the reach, once.
-use Rattle.std.proofs.Common.{◌≡◌, ◌≢◌, ℕ, zero, suc, ◌<◌, ◌≤◌, true, false, ◌==◌, List, [], ◌∷◌, ◌++◌, map, length, append_assoc, Some, None, slice_get, slice_index_or, refl, sym, ◌∙◌, ap, subst, arith, true-eqb, true≢false}
+use Rattle.std.proofs.Common.{◌≡◌, ◌≢◌, ℕ, zero, suc, ◌<◌, ◌≤◌, true, false, ◌==◌, List, [], ◌∷◌, ◌++◌, map, length, append_assoc, Some, slice_get, slice_index_or, refl, sym, ◌∙◌, ap, subst, arith, true-eqb, true≢false}
 use Rattle.std.specs.List.{AllByRecursion}
 use Rattle.std.specs.Option.{option_map}
 use Rattle.std.proofs.lemmas.Bool.Decides.{nat_tests}
@@ -13,7 +13,7 @@ use Rattle.chr_guard.proofs.Under.{under_append}
 use Rattle.chr_model.specs.Stores.{Store, atom_at, among, Distinct, Carry, Labelled}
 use Rattle.chr_model.specs.Programs.{Instances}
 use Rattle.chr_model.proofs.Stores.{among-append, among-itself, among-more, Distinct-left}
-use Rattle.chr_plan.specs.Orders.{heads_of}
+use Rattle.chr_plan.specs.Orders.{heads_of, first_step}
 use Rattle.chr_plan.specs.Plans.{plan_at, ArePlans}
 use Rattle.chr_plan.specs.declared.order.Step.{Step}
 use Rattle.chr_search.specs.Tree.{Grows}
@@ -151,18 +151,18 @@ grow j h v ls p o s b front (x ∷ rest) q =
           (grow j h v ls p o s b (front ++ x ∷ []) rest (q ∙ sym (append_assoc front (x ∷ []) rest))),
     )
   where
-    first_step : (f : List Step) (y : Step) (more : List Step) → j.order ≡ f ++ y ∷ more → f ≡ [] → y ≡ record { head = h; key = None }
-    first_step [] y more z e = let c : y ∷ more ≡ record { head = h; key = None } ∷ o.rest = sym z ∙ o.first in cc
-    first_step (f ∷ fs) y more z e = absurd (cc)
+    is_first : (f : List Step) (y : Step) (more : List Step) → j.order ≡ f ++ y ∷ more → f ≡ [] → y ≡ first_step (heads_of j.rule) h
+    is_first [] y more z e = let c : y ∷ more ≡ first_step (heads_of j.rule) h ∷ o.rest = sym z ∙ o.first in cc
+    is_first (f ∷ fs) y more z e = absurd (cc)
 
     turn : (f : List Step) → j.order ≡ f ++ x ∷ rest → AllByRecursion (IsWithin (length (heads_of j.rule))) (f ++ x ∷ rest) → Distinct (heads_in (f ++ x ∷ rest)) → IsInTurn j (labels_in ls f) (label_of ls x.head)
-    turn [] z w d = ap (λ (k : Step). label_of ls k.head) (first_step [] x rest z refl) ∙ b.first
+    turn [] z w d = ap (λ (k : Step). label_of ls k.head) (is_first [] x rest z refl) ∙ b.first
     turn (f ∷ fs) z w d =
         let in_x = within_at (length (heads_of j.rule)) (f ∷ fs) x rest w in
         let high : x.head ≤ length (heads_of j.rule) = in_x.1 in
         let count : length ls ≡ length (heads_of j.rule) = s.count in
-        let c : f ∷ (fs ++ x ∷ rest) ≡ record { head = h; key = None } ∷ o.rest = sym z ∙ o.first in
-        let is_h : f ≡ record { head = h; key = None } = cc in
+        let c : f ∷ (fs ++ x ∷ rest) ≡ first_step (heads_of j.rule) h ∷ o.rest = sym z ∙ o.first in
+        let is_h : f ≡ first_step (heads_of j.rule) h = cc in
         let other : among (labels_in ls (f ∷ fs)) (label_of ls x.head) ≡ false = not_among (length (heads_of j.rule)) ls s.distinct s.count x.head in_x.0 in_x.1 (f ∷ fs) (x ∷ rest) w (distinct_before (f ∷ fs) x rest d) in
         b.others (label_of ls x.head) (among_label ls x.head in_x.0 (omega arith))
         (λ e. let same : label_of ls f.head ≡ label_of ls x.head = ap (λ (k : Step). label_of ls k.head) is_h ∙ b.first ∙ sym e in

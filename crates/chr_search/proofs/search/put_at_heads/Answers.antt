@@ -1,4 +1,4 @@
-use Rattle.std.proofs.Common.{◌≡◌, ◌++◌, Some, None, get_or, slice_get, arith, length-append}
+use Rattle.std.proofs.Common.{◌≡◌, ◌++◌, Some, None, false, get_or, slice_get, arith, length-append}
 use Rattle.std.proofs.lemmas.Option.{slice_get-get_or}
 use Rattle.chr_search.specs.Joined.{join_of}
 use Rattle.chr_search.proofs.AtHeads.{IsAtStep, at_step, steps_enough, put_next, all_put}
@@ -9,11 +9,11 @@ pub bounds-join-i : goal.bounds-join-i
 bounds-join-i g c = omega (arith, steps_enough (join_of c.args.join.now) c.args.labels.now c.requires.trial.0 c.requires.trial.1)
 
 -- the next step
-step_is : (g : _) (c : In-loop-i g) → slice_get c.args.join.now.order.now c.loop-i.i ≡ Some (get_or c.args.join.now.order.now c.loop-i.i (record { head = 0; key = None }))
+step_is : (g : _) (c : In-loop-i g) → slice_get c.args.join.now.order.now c.loop-i.i ≡ Some (get_or c.args.join.now.order.now c.loop-i.i (record { head = 0; key = None; fresh = false }))
 step_is g c =
-    slice_get-get_or c.args.join.now.order.now c.loop-i.i (record { head = 0; key = None }) (omega (arith, steps_enough (join_of c.args.join.now) c.args.labels.now c.requires.trial.0 c.requires.trial.1))
+    slice_get-get_or c.args.join.now.order.now c.loop-i.i (record { head = 0; key = None; fresh = false }) (omega (arith, steps_enough (join_of c.args.join.now) c.args.labels.now c.requires.trial.0 c.requires.trial.1))
 
-here : (g : _) (c : In-loop-i g) → IsAtStep (join_of c.args.join.now) c.args.labels.now c.loop-i.i (get_or c.args.join.now.order.now c.loop-i.i (record { head = 0; key = None }))
+here : (g : _) (c : In-loop-i g) → IsAtStep (join_of c.args.join.now) c.args.labels.now c.loop-i.i (get_or c.args.join.now.order.now c.loop-i.i (record { head = 0; key = None; fresh = false }))
 here g c = at_step (join_of c.args.join.now) c.args.labels.now c.requires.trial.0 c.requires.trial.1 c.loop-i.i _ c.loop-i-test.true (step_is g c)
 
 pub put_at_head-requires-clause-from : goal.put_at_head-requires-clause-from

@@ -1,4 +1,4 @@
-use Rattle.std.proofs.Common.{◌≡◌, ◌≤◌, ◌<◌, length, Some, None, get_or, refl, sym, ◌∙◌, arith}
+use Rattle.std.proofs.Common.{◌≡◌, ◌≤◌, ◌<◌, length, Some, None, false, get_or, refl, sym, ◌∙◌, arith}
 use Rattle.chr_model.specs.Stores.{atom_at}
 use Rattle.std.proofs.lemmas.Option.{slice_get-get_or}
 use Rattle.chr_search.specs.Placed.{placed_as}
@@ -21,7 +21,7 @@ loop-i-preserved g c =
     let here : c.loop-i.i < length ls = c.loop-i-test.true in
     let count : length ls ≤ length order = c.requires.count in
     record {
-      heads = read_more (λ p. p.head) c.loop-i.placed.items c.push_placed.new.placed.items _ (heads_in order) c.loop-i.i _ c.loop-i.invariant.heads c.in_ok-push_placed.ensures refl (heads_read order c.loop-i.i (record { head = 0; key = None }) (omega arith));
+      heads = read_more (λ p. p.head) c.loop-i.placed.items c.push_placed.new.placed.items _ (heads_in order) c.loop-i.i _ c.loop-i.invariant.heads c.in_ok-push_placed.ensures refl (heads_read order c.loop-i.i (record { head = 0; key = None; fresh = false }) (omega arith));
       labels = read_more (λ p. p.label) c.loop-i.placed.items c.push_placed.new.placed.items _ ls c.loop-i.i _ c.loop-i.invariant.labels c.in_ok-push_placed.ensures refl (slice_get-get_or ls c.loop-i.i 0 here);
       live = all_more (λ p. atom_at c.args.store.now.entries p.label ≡ Some p.atom) c.loop-i.placed.items c.push_placed.new.placed.items _ c.loop-i.invariant.live c.in_ok-push_placed.ensures (sym c.in-Some.ensures);
     }
