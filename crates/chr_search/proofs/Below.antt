@@ -1,19 +1,20 @@
 -- Going over the trials below labels.
-use Rattle.std.proofs.Common.{◌≡◌, ℕ, zero, suc, ◌+◌, ◌-◌, ◌<◌, ◌≤◌, List, [], ◌∷◌, ◌++◌, length, take, Option, refl, sym, ◌∙◌, ap, subst, arith, length-append, inr}
-use Rattle.std.proofs.lemmas.List.{take_at}
+use Rattle.std.proofs.Common.{◌≡◌, ℕ, zero, suc, ◌+◌, ◌-◌, ◌<◌, ◌≤◌, List, [], ◌∷◌, ◌++◌, length, Option, refl, sym, ◌∙◌, ap, subst, arith, length-append, inr}
 use Rattle.chr_value.specs.Atoms.{Value}
 use Rattle.chr_search.specs.declared.passing.End.{End}
 use Rattle.chr_search.specs.declared.passing.End.TheVariants as ends
 use Rattle.chr_search.specs.declared.passing.Passed.{Passed}
+use Rattle.chr_search.specs.declared.passing.Stop.{Stop}
+use Rattle.chr_search.specs.declared.passing.Stop.TheVariants as stops
 use Rattle.chr_search.specs.declared.judged.Verdict.TheVariants.{Misfit, Part}
 use Rattle.chr_search.specs.Tree.{Grows, Least, NoneBeyond, LeastFrom, NoneFrom}
 use Rattle.chr_search.specs.Trials.{Join, MayFollow}
 use Rattle.chr_search.specs.Partners.{HasPlan}
-use Rattle.chr_search.specs.Passing.{AreJudged, AreWhole, AreMisfits, PassesOneIn, PassesIn, HasPassed, IsBelow, IsDone, EndsIn, EndsBelow, settled}
+use Rattle.chr_search.specs.Passing.{AreJudged, AreWhole, AreMisfits, PassesOneIn, PassesIn, IsCounted, PassesPlan, PassesBelow, PassesLevel, IsAfterPart, IsBelow, IsDone, EndsIn, EndsBelow}
 use Rattle.chr_search.proofs.Positions.{past_last}
 use Rattle.chr_search.proofs.Partners.{turn_low, none_above}
 use Rattle.chr_search.proofs.Asking.{room}
-use Rattle.chr_search.proofs.Tree.{append_one, Come, come_first, come_at, come_to_end, come_to, come_past, least_deep}
+use Rattle.chr_search.proofs.Tree.{append_one, grows_more, Come, come_first, come_at, come_to_end, come_to, come_past, least_deep}
 
 -- a place below labels
 come_of : (j : Join) (ls place : List ℕ) (from : ℕ) → (b : IsBelow j ls place from) → Come (MayFollow j) 1 ls b.rest from []
@@ -63,21 +64,35 @@ pub passes_more : (j : Join) (n more : ℕ) (place middle after : List ℕ) → 
 passes_more j zero more place middle after p q = subst (λ k. PassesIn j k place after) (let e : more ≡ 0 + more = omega arith in e) (subst (λ z. PassesIn j more z after) p q)
 passes_more j (suc n) more place middle after p q = subst (λ k. PassesIn j k place after) (let e : suc (n + more) ≡ suc n + more = omega arith in e) (p.0, p.1, passes_more j n more p.0 middle after p.2 q)
 
--- over misfits
-pub misfits_settled : (j : Join) (ls place : List ℕ) (n from next : ℕ) → IsBelow j ls place from → AreMisfits j ls n from next → PassesIn j n place (settled n ls next place) × IsBelow j ls (settled n ls next place) next
-misfits_settled j ls place zero from next b e = (refl, subst (IsBelow j ls place) (sym e) b)
-misfits_settled j ls place (suc n) from next b (middle, x, before, least, misfit, e) =
-    let r = misfits_settled j ls place n from middle b before in
-    let one : PassesOneIn j (settled n ls middle place) (ls ++ next ∷ []) = record {
+-- over misfits, from a place to where the next one is looked for
+pub record HasRun (j : Join) (ls place : List ℕ) (n next : ℕ) : Type 0 where
+  pub at : List ℕ
+  pub passes : PassesIn j n place at
+  pub below : IsBelow j ls at next
+
+pub misfits_passed : (j : Join) (ls place : List ℕ) (n from next : ℕ) → IsBelow j ls place from → AreMisfits j ls n from next → HasRun j ls place n next
+misfits_passed j ls place zero from next b e = record { at = place; passes = refl; below = subst (IsBelow j ls place) (sym e) b }
+misfits_passed j ls place (suc n) from next b (middle, x, before, least, misfit, e) =
+    let r = misfits_passed j ls place n from middle b before in
+    let one : PassesOneIn j r.at (ls ++ next ∷ []) = record {
       trial = ls ++ x ∷ [];
-      least = below_least j ls (settled n ls middle place) middle x r.1 least;
+      least = below_least j ls r.at middle x r.below least;
       verdict = Misfit;
       right = misfit;
       other = λ z. absurd (cc);
       on = ap (λ y. ls ++ y ∷ []) e ∙ sym (past_last ls x);
     } in
-    let passes = passes_more j n 1 place (settled n ls middle place) (ls ++ next ∷ []) r.0 (ls ++ next ∷ [], one, refl) in
-    (subst (λ k. PassesIn j k place (ls ++ next ∷ [])) (let q : n + 1 ≡ suc n = omega arith in q) passes, below_at j ls (ls ++ next ∷ []) next b.grows refl)
+    let passes = passes_more j n 1 place r.at (ls ++ next ∷ []) r.passes (ls ++ next ∷ [], one, refl) in
+    record {
+      at = ls ++ next ∷ [];
+      passes = subst (λ k. PassesIn j k place (ls ++ next ∷ [])) (let q : n + 1 ≡ suc n = omega arith in q) passes;
+      below = below_at j ls (ls ++ next ∷ []) next b.grows refl;
+    }
+
+pub misfits_enough : (j : Join) (ls place : List ℕ) (n from next : ℕ) → IsBelow j ls place from → AreMisfits j ls n from next → 1 ≤ n → PassesIn j n place (ls ++ next ∷ [])
+unfolding misfits_passed
+misfits_enough j ls place zero from next b m some = absurd (omega arith)
+misfits_enough j ls place (suc n) from next b m some = (misfits_passed j ls place (suc n) from next b m).passes
 
 -- over a part
 pub part_passed : (j : Join) (ls place : List ℕ) (n : ℕ) (middle : List ℕ) (from x : ℕ) → PassesIn j n place middle → IsBelow j ls middle from → LeastFrom (MayFollow j ls) from x → AreJudged j (ls ++ x ∷ []) Part → PassesIn j (n + 1) place ((ls ++ x ∷ []) ++ 0 ∷ [])
@@ -103,35 +118,73 @@ pub misfits_room : (j : Join) → HasPlan j → (ls : List ℕ) (n from next : �
 misfits_room j p ls zero from next m some = absurd (omega arith)
 misfits_room j p ls (suc n) from next m some = room j p ls m.1 m.3.holds
 
-pub record HasRun (j : Join) (ls place after : List ℕ) (depth n next : ℕ) : Type 0 where
-  pub passes : PassesIn j n place after
-  pub below : IsBelow j ls after next
-  pub front : take depth after ≡ ls
-  pub deep : depth ≡ length ls
-
-pub has_run : (j : Join) (ls place after : List ℕ) (depth n from next : ℕ) → IsBelow j ls place from → AreMisfits j ls n from next → depth ≡ length ls → after ≡ settled n (take depth place) next place → HasRun j ls place after depth n next
-has_run j ls place after depth n from next b m e is =
-    let r = misfits_settled j ls place n from next b m in
-    let same : settled n ls next place ≡ after = ap (λ xs. settled n xs next place) (sym (ap (take depth) b.is ∙ take_at ls b.rest depth (sym e))) ∙ sym is in
-    let below : IsBelow j ls after next = subst (λ z. IsBelow j ls z next) same r.1 in
-    record { passes = subst (PassesIn j n place) same r.0; below = below; front = ap (take depth) below.is ∙ take_at ls below.rest depth (sym e); deep = e }
-
 -- why no more are passed over, where some are left below deeper labels
-pub ends_deeper : (j : Join) (deeper path place : List ℕ) (end : End) (ls : List ℕ) (binding : List (Option (Value ℕ))) → (end ≡ ends.NoneLeft → ⊥) → EndsBelow j deeper place end ls binding → EndsBelow j path place end ls binding
+ends_deeper : (j : Join) (deeper path place : List ℕ) (end : End) (ls : List ℕ) (binding : List (Option (Value ℕ))) → (end ≡ ends.NoneLeft → ⊥) → EndsBelow j deeper place end ls binding → EndsBelow j path place end ls binding
 ends_deeper j deeper path place ends.NoneLeft ls binding other e = absurd (other refl)
 ends_deeper j deeper path place end ls binding other e = e
 
+pub deeper_passed : (j : Join) (deeper path place : List ℕ) (passed : Passed) (ls : List ℕ) (binding : List (Option (Value ℕ))) → (passed.end ≡ ends.NoneLeft → ⊥) → PassesBelow j deeper place passed ls binding → PassesBelow j path place passed ls binding
+deeper_passed j deeper path place passed ls binding other p = record { after = p.after; passes = p.passes; ends = ends_deeper j deeper path p.after passed.end ls binding other p.ends }
+
+-- a place with one label more in the path
+pub deeper_place : (path : List ℕ) (first : ℕ) (deeper below pushed : List ℕ) → pushed ≡ path ++ first ∷ [] → below ≡ deeper → pushed ++ deeper ≡ path ++ first ∷ below
+deeper_place path first deeper below pushed p e = ap (λ (z : List ℕ). z ++ deeper) p ∙ append_one path deeper first ∙ ap (λ (z : List ℕ). path ++ first ∷ z) (sym e)
+
+-- below no labels
+pub all_passed : (j : Join) (place : List ℕ) (passed : Passed) (ls : List ℕ) (binding : List (Option (Value ℕ))) → PassesBelow j [] place passed ls binding → PassesPlan j place passed ls binding
+all_passed j place passed ls binding p = record { after = p.after; passes = p.passes; ends = ends_all p.after passed.end p.ends }
+  where
+    ends_all : (after : List ℕ) (end : End) → EndsBelow j [] after end ls binding → EndsIn j after end ls binding
+    ends_all after ends.NoneLeft e = subst (NoneBeyond (MayFollow j) 1 []) (sym e.1.is) e.1.none
+    ends_all after end e = e
+
 -- some are passed over, and then more
-pub passed_more : (j : Join) (most n : ℕ) (place middle after : List ℕ) (more : Passed) → n ≤ most → PassesIn j n place middle → HasPassed j (most - n) middle more after → HasPassed j most place (record { count = n + more.count; end = more.end }) after
-passed_more j most n place middle after more few p m = record {
-  few = omega (arith, m.few);
-  enough = λ e. omega (arith, m.enough e);
-  passes = passes_more j n more.count place middle after p m.passes;
-}
+pub counted_more : (most n : ℕ) (more : Passed) → n ≤ most → IsCounted (most - n) more → IsCounted most (record { count = n + more.count; end = more.end })
+counted_more most n more few m = record { few = omega (arith, m.few); enough = λ e. omega (arith, m.enough e); less = λ e. omega (arith, m.less e) }
+
+pub passed_more : (j : Join) (path : List ℕ) (n : ℕ) (place middle : List ℕ) (more : Passed) (ls : List ℕ) (binding : List (Option (Value ℕ))) → PassesIn j n place middle → PassesBelow j path middle more ls binding → PassesBelow j path place (record { count = n + more.count; end = more.end }) ls binding
+passed_more j path n place middle more ls binding p m = record { after = m.after; passes = passes_more j n more.count place middle m.after p m.passes; ends = m.ends }
+
+-- the trials beside are gone over too, from any place where they are looked for, and that ends
+abbrev PassesBeside : Join → List ℕ → ℕ → ℕ → Stop → List ℕ → List (Option (Value ℕ)) → Type 0
+PassesBeside j path from more stop ls binding = (place : List ℕ) → IsBelow j path place from → PassesLevel j path from place more stop ls binding
+
+beside_run : (j : Join) (path same place : List ℕ) (n more from : ℕ) (stop : Stop) (ls : List ℕ) (binding : List (Option (Value ℕ))) → same ≡ path → (r : HasRun j path place n from) → PassesBeside j same from more stop ls binding → PassesLevel j path from r.at more stop ls binding
+beside_run j path same place n more from stop ls binding e r p = subst (λ z. PassesBeside j z from more stop ls binding) e p r.at r.below
+
+pub beside_ends : (j : Join) (path same place : List ℕ) (n more from : ℕ) (stop : Stop) (ls : List ℕ) (binding : List (Option (Value ℕ))) → same ≡ path → HasRun j path place n from → PassesBeside j same from more stop ls binding → (end : End) → stop ≡ stops.End end → PassesBelow j path place (record { count = n + more; end = end }) ls binding
+beside_ends j path same place n more from stop ls binding e r p end is =
+    let level = subst (λ s. PassesLevel j path from r.at more s ls binding) is (beside_run j path same place n more from stop ls binding e r p) in
+    record { after = level.after; passes = passes_more j n more place r.at level.after r.passes level.passes; ends = level.stops }
+
+-- or it stops at a part
+pub record HasStopped (j : Join) (path : List ℕ) (from : ℕ) (place : List ℕ) (n x : ℕ) (ls : List ℕ) (binding : List (Option (Value ℕ))) : Type 0 where
+  pub after : List ℕ
+  pub passes : PassesIn j n place after
+  pub same : ls ≡ path
+  pub low : from ≤ x
+  pub part : IsAfterPart j path x after binding
+
+pub beside_stops : (j : Join) (path same place : List ℕ) (n more from : ℕ) (stop : Stop) (ls : List ℕ) (binding : List (Option (Value ℕ))) → same ≡ path → HasRun j path place n from → PassesBeside j same from more stop ls binding → (x : ℕ) → stop ≡ stops.Part x → HasStopped j path from place (n + more) x ls binding
+beside_stops j path same place n more from stop ls binding e r p x is =
+    let level = subst (λ s. PassesLevel j path from r.at more s ls binding) is (beside_run j path same place n more from stop ls binding e r p) in
+    record {
+      after = level.after;
+      passes = passes_more j n more place r.at level.after r.passes level.passes;
+      same = level.stops.0;
+      low = level.stops.1;
+      part = level.stops.2;
+    }
+
+-- a place just after it is below its labels
+pub part_below : (j : Join) (path : List ℕ) (x : ℕ) (after ls : List ℕ) (binding : List (Option (Value ℕ))) → Grows (MayFollow j) [] path → IsAfterPart j path x after binding → ls ≡ path ++ x ∷ [] → IsBelow j ls after 0
+part_below j path x after ls binding g p is =
+    below_at j ls after 0 (subst (Grows (MayFollow j) []) (sym is) (grows_more (MayFollow j) [] path x g p.follows)) (p.place_is ∙ ap (λ (z : List ℕ). z ++ 0 ∷ []) (sym is))
 
 -- all trials below a label were passed over, so many
-pub record IsLeft (j : Join) (path : List ℕ) (first most n : ℕ) (place after ls : List ℕ) : Type 0 where
-  pub few : n ≤ most
+pub record IsLeft (j : Join) (path : List ℕ) (first most n : ℕ) (place ls : List ℕ) : Type 0 where
+  pub less : n < most
+  pub after : List ℕ
   pub passes : PassesIn j n place after
   pub same : ls ≡ path
   pub below : IsBelow j path after (first + 1)
@@ -149,25 +202,31 @@ module _ (j : Join) (x : ℕ) (m : MayFollow j [] x) where
   no_second y n low = omega (arith, m.turn, n.turn)
 
   -- it is a misfit
-  pub first_misfit : AreJudged j (x ∷ []) Misfit → (after : List ℕ) → after ≡ (x + 1) ∷ [] → PassesIn j 1 [] after × NoneBeyond (MayFollow j) 1 [] after
-  first_misfit a after is =
-      let r = misfits_settled j [] [] 1 0 (x + 1) (below_first j) (0, x, refl, first_least, a, refl) in
-      let done = below_done j [] ((x + 1) ∷ []) (x + 1) r.1 no_second in
-      subst (λ z. PassesIn j 1 [] z × NoneBeyond (MayFollow j) 1 [] z) (sym is) (r.0, subst (NoneBeyond (MayFollow j) 1 []) (sym done.is) done.none)
+  pub first_misfit : AreJudged j (x ∷ []) Misfit → PassesIn j 1 [] ((x + 1) ∷ []) × NoneBeyond (MayFollow j) 1 [] ((x + 1) ∷ [])
+  first_misfit a =
+      let done = below_done j [] ((x + 1) ∷ []) (x + 1) (below_at j [] ((x + 1) ∷ []) (x + 1) tt refl) no_second in
+      (misfits_enough j [] [] 1 0 (x + 1) (below_first j) (0, x, refl, first_least, a, refl) (omega arith), subst (NoneBeyond (MayFollow j) 1 []) (sym done.is) done.none)
 
   -- it is whole
   pub first_whole : (binding : List (Option (Value ℕ))) → AreWhole j (x ∷ []) binding → (ls : List ℕ) → ls ≡ x ∷ [] → EndsIn j [] ends.Whole ls binding
   first_whole binding w ls is = subst (λ (z : List ℕ). Least (MayFollow j) 1 [] [] z × AreWhole j z binding) (sym is) (below_least j [] [] 0 x (below_first j) first_least, w)
 
   -- it is a part
-  pub first_part : AreJudged j (x ∷ []) Part → (one middle : List ℕ) → one ≡ x ∷ [] → middle ≡ one ++ 0 ∷ [] → PassesIn j 1 [] middle
-  first_part a one middle p q = subst (PassesIn j 1 []) (sym (q ∙ ap (λ (z : List ℕ). z ++ 0 ∷ []) p)) (part_passed j [] [] 0 [] 0 x refl (below_first j) first_least a)
+  pub first_part : AreJudged j (x ∷ []) Part → PassesIn j 1 [] (x ∷ 0 ∷ [])
+  first_part a = part_passed j [] [] 0 [] 0 x refl (below_first j) first_least a
 
-  pub first_below : (ls one middle : List ℕ) → ls ≡ x ∷ [] → one ≡ x ∷ [] → middle ≡ one ++ 0 ∷ [] → IsBelow j ls middle 0
-  first_below ls one middle is p q = below_at j ls middle 0 (subst (Grows (MayFollow j) []) (sym is) (m, tt)) (q ∙ ap (λ (z : List ℕ). z ++ 0 ∷ []) (p ∙ sym is))
+  pub first_below : (ls : List ℕ) → ls ≡ x ∷ [] → IsBelow j ls (x ∷ 0 ∷ []) 0
+  first_below ls is = below_at j ls (x ∷ 0 ∷ []) 0 (subst (Grows (MayFollow j) []) (sym is) (m, tt)) (ap (λ (z : List ℕ). z ++ 0 ∷ []) (sym is))
 
-  pub first_ends : (path : List ℕ) → path ≡ x ∷ [] → (place : List ℕ) (end : End) (ls : List ℕ) (binding : List (Option (Value ℕ))) → EndsBelow j path place end ls binding → EndsIn j place end ls binding
+  first_ends : (path : List ℕ) → path ≡ x ∷ [] → (place : List ℕ) (end : End) (ls : List ℕ) (binding : List (Option (Value ℕ))) → EndsBelow j path place end ls binding → EndsIn j place end ls binding
   first_ends path is place ends.NoneLeft ls binding e =
       let done = below_done j [] place (x + 1) (done_below j [] place x tt (subst (λ (z : List ℕ). IsDone j z place) is e.1)) no_second in
       subst (NoneBeyond (MayFollow j) 1 []) (sym done.is) done.none
   first_ends path is place end ls binding e = e
+
+  pub first_passed : AreJudged j (x ∷ []) Part → (path : List ℕ) → path ≡ x ∷ [] → (more : Passed) (ls : List ℕ) (binding : List (Option (Value ℕ))) → PassesBelow j path (x ∷ 0 ∷ []) more ls binding → PassesPlan j [] (record { count = 1 + more.count; end = more.end }) ls binding
+  first_passed a path is more ls binding p = record {
+    after = p.after;
+    passes = passes_more j 1 more.count [] (x ∷ 0 ∷ []) p.after (first_part a) p.passes;
+    ends = first_ends path is p.after more.end ls binding p.ends;
+  }

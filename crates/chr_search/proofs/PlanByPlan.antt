@@ -9,7 +9,6 @@ use Rattle.chr_plan.specs.Orders.{heads_of, first_step}
 use Rattle.chr_plan.specs.Plans.{ArePlans}
 use Rattle.chr_plan.specs.declared.order.Step.{Step}
 use Rattle.chr_store.specs.Labels.{LabelledStore, IsLabelled}
-use Rattle.chr_search.specs.declared.passing.End.{End}
 use Rattle.chr_search.specs.declared.search.Whole.{Whole as CodeWhole}
 use Rattle.chr_search.specs.Positions.{at_or_after, past}
 use Rattle.chr_search.specs.Tree.{Grows, Least, NoneBeyond}
@@ -18,14 +17,14 @@ use Rattle.chr_search.specs.Verdicts.{Placed, Trial, label_at, labels_from, kept
 use Rattle.chr_search.specs.Partners.{HasPlan}
 use Rattle.chr_search.specs.Answers.{after_verdict}
 use Rattle.chr_search.specs.Passing.{IsTrialIn, HasTrials, AreWhole, PassesOneIn, PassesIn, PassesOne, Passes, IsWholeNext}
-use Rattle.chr_search.specs.PlanByPlan.{label_at_head, labels_at_heads, labels_in, IsJoinOf, IsJoinAt, PassesPlan, HasComeTo, IsNextJoin}
+use Rattle.chr_search.specs.PlanByPlan.{label_at_head, labels_at_heads, labels_in, IsJoinOf, IsJoinAt, HasComeTo, IsNextJoin}
 use Rattle.chr_search.proofs.Positions.{after_itself, after_by}
 use Rattle.chr_search.proofs.Plans.{heads_in, planned}
 use Rattle.chr_search.proofs.Tree.{least_deep}
 use Rattle.chr_search.proofs.Asking.{begins_if}
 use Rattle.chr_search.proofs.Judging.{few_heads}
 use Rattle.chr_search.proofs.Descents.{none_left, head_low, rule_low, grows_in, is_first, each_trial, least_out}
-use Rattle.chr_search.proofs.PassingOver.{Makes, made_of, has_trials, position_made, trial_of_made, after_labels}
+use Rattle.chr_search.proofs.PassingOver.{Makes, made_of, has_trials, position_made, trial_of_made, after_labels, pass_more}
 
 -- these are the labels of a trial
 pub placed_label : (order : List Step) (ps : List Placed) (h : ℕ) → map (λ (p : Placed). p.head) ps ≡ take (length ps) (heads_in order) → label_at_head order (map (λ (p : Placed). p.label) ps) h ≡ label_at ps h
@@ -126,39 +125,43 @@ passed_in : (s : Space) (rule : Simpagation ℕ) (order : List Step) (r h : ℕ)
 passed_in s rule order r h m n place old new a (middle, one, more) = (r ∷ h ∷ middle, one_in s rule order r h m place old middle a one, passed_on s rule order r h m n middle new more)
 
 -- a search that has gone through a plan
-pub record HasGone (s : Space) (place : List ℕ) (r h n : ℕ) (after labels : List ℕ) : Type 0 where
+pub record HasGone (s : Space) (place : List ℕ) (r h n : ℕ) (labels : List ℕ) : Type 0 where
+  pub after : List ℕ
   pub passed : Passes s n place after
   pub come : HasComeTo s after r h
   pub alike : AreAlike s after (r ∷ h ∷ labels)
 
-pub gone_at : (s : Space) (r h : ℕ) (j : Join) → IsJoinAt s r h j → Makes s j.rule j.order r h → (place : List ℕ) (n : ℕ) (after : List ℕ) (end : End) (ls : List ℕ) (binding : List (Option (Value ℕ))) → HasComeTo s place r h → (p : PassesPlan j r h place n after end ls binding) → HasGone s place r h n after p.labels
-gone_at s r h j k m place zero after end ls binding c p =
-    let e : after ≡ place = p.stays refl in
-    record {
-      passed = e;
-      come = subst (λ z. HasComeTo s z r h) (sym e) c;
-      alike = subst (λ z. AreAlike s z (r ∷ h ∷ p.labels)) (sym e) (subst (λ z. AreAlike s place (r ∷ h ∷ z)) (sym p.passes) (alike_in s place r h c));
-    }
-gone_at s r h j k m place (suc n) after end ls binding c p =
-    let e : after ≡ r ∷ h ∷ p.labels = p.moves (omega arith) in
-    let passes = subst (λ (x : Join). PassesIn x (suc n) (labels_in place r h) p.labels) k.is p.passes in
-    record {
-      passed = subst (λ z. Passes s (suc n) place z) (sym e) (passed_in s j.rule j.order r h m n place (labels_in place r h) p.labels (alike_in s place r h c) passes);
-      come = subst (λ z. HasComeTo s z r h) (sym e) (come_to_own s r h p.labels);
-      alike = subst (λ z. AreAlike s z (r ∷ h ∷ p.labels)) (sym e) (itself s (r ∷ h ∷ p.labels));
-    }
+pub gone_at : (s : Space) (r h : ℕ) (j : Join) → IsJoinAt s r h j → Makes s j.rule j.order r h → (place : List ℕ) (n : ℕ) (labels : List ℕ) → HasComeTo s place r h → PassesIn j n (labels_in place r h) labels → HasGone s place r h n labels
+gone_at s r h j k m place zero labels c p = record {
+  after = place;
+  passed = refl;
+  come = c;
+  alike = subst (λ z. AreAlike s place (r ∷ h ∷ z)) (sym p) (alike_in s place r h c);
+}
+gone_at s r h j k m place (suc n) labels c p = record {
+  after = r ∷ h ∷ labels;
+  passed = passed_in s j.rule j.order r h m n place (labels_in place r h) labels (alike_in s place r h c) (subst (λ (x : Join). PassesIn x (suc n) (labels_in place r h) labels) k.is p);
+  come = come_to_own s r h labels;
+  alike = itself s (r ∷ h ∷ labels);
+}
+
+-- one that has passed over some of its trials stands in it
+pub gone_some : (s : Space) (r h : ℕ) (j : Join) → IsJoinAt s r h j → Makes s j.rule j.order r h → (place : List ℕ) (n : ℕ) (labels : List ℕ) → HasComeTo s place r h → PassesIn j n (labels_in place r h) labels → 1 ≤ n → Passes s n place (r ∷ h ∷ labels)
+unfolding gone_at
+gone_some s r h j k m place zero labels c p some = absurd (omega arith)
+gone_some s r h j k m place (suc n) labels c p some = (gone_at s r h j k m place (suc n) labels c p).passed
 
 -- the trial that is whole
-pub whole_at : (s : Space) (r h : ℕ) (j : Join) → IsJoinAt s r h j → Makes s j.rule j.order r h → (place : List ℕ) (n : ℕ) (after labels ls : List ℕ) (binding : List (Option (Value ℕ))) → HasGone s place r h n after labels → Least (MayFollow j) 1 [] labels ls → AreWhole j ls binding → (w : CodeWhole) → w.number ≡ r
-    → w.kept.items ≡ labels_at_heads j.order ls 1 (length j.rule.kept) → w.removed.items ≡ labels_at_heads j.order ls (suc (length j.rule.kept)) (length j.rule.removed) → w.past ≡ record { label = j.active; place = past (r ∷ h ∷ ls) } → IsWholeNext s after w binding
-whole_at s r h j k m place n after labels ls binding gone l whole w number_is kept_is removed_is past_is =
+pub whole_at : (s : Space) (r h : ℕ) (j : Join) → IsJoinAt s r h j → Makes s j.rule j.order r h → (place : List ℕ) (n : ℕ) (labels ls : List ℕ) (binding : List (Option (Value ℕ))) → (gone : HasGone s place r h n labels) → Least (MayFollow j) 1 [] labels ls → AreWhole j ls binding → (w : CodeWhole) → w.number ≡ r
+    → w.kept.items ≡ labels_at_heads j.order ls 1 (length j.rule.kept) → w.removed.items ≡ labels_at_heads j.order ls (suc (length j.rule.kept)) (length j.rule.removed) → w.past ≡ record { label = j.active; place = past (r ∷ h ∷ ls) } → IsWholeNext s gone.after w binding
+whole_at s r h j k m place n labels ls binding gone l whole w number_is kept_is removed_is past_is =
     let g = subst (λ (x : Join). (1 ≤ length ls) × Grows (MayFollow x) [] ls) k.is (grown j labels ls l) in
     let t = made_of s j.rule j.order r h m ls g.0 g.1 in
     let is : position t.trial ≡ r ∷ h ∷ ls = position_made s j.rule j.order r h ls t in
     let labels_are = at_heads (join_in s j.rule j.order) ls t.trial t.is in
     record {
       trial = t.trial;
-      next = subst (IsNext s after) (sym is) (next_in_plan s after r h labels j gone.alike m.planned k.is ls l);
+      next = subst (IsNext s gone.after) (sym is) (next_in_plan s gone.after r h labels j gone.alike m.planned k.is ls l);
       is = trial_of_made s j.rule j.order r h ls t m.planned.rule_is m.planned.order_is;
       formed = t.is.formed;
       under = subst (λ (x : Join). AreWhole x ls binding) k.is whole t.trial t.is;
@@ -220,6 +223,33 @@ has_join s t e place r h x y j c n ps store entries labelled =
         head = head_low s.plans x y j.order p.order_is;
       };
     }
+
+-- A search that has passed over so many trials from a place on and has come to the plan of a rule and a head. In that
+-- and the later ones it looks from where the place stands there.
+pub record HasReached (s : Space) (place : List ℕ) (n r h : ℕ) : Type 0 where
+  pub at : List ℕ
+  pub passed : Passes s n place at
+  pub come : HasComeTo s at r h
+  pub same : (x y : ℕ) → at_or_after (r ∷ h ∷ []) (x ∷ y ∷ []) ≡ true → labels_in place x y ≡ labels_in at x y
+
+pub reached_first : (s : Space) (place : List ℕ) (r h : ℕ) → HasComeTo s place r h → HasReached s place 0 r h
+reached_first s place r h c = record { at = place; passed = refl; come = c; same = λ x y k. refl }
+
+-- at a later head a place stands nowhere
+none_ahead : (place : List ℕ) (r h x y : ℕ) → at_or_after (take 2 place) (r ∷ h ∷ []) ≡ true → at_or_after (r ∷ (h + 1) ∷ []) (x ∷ y ∷ []) ≡ true → labels_in place x y ≡ []
+none_ahead [] r h x y l k = refl
+none_ahead (a ∷ []) r h x y l k = refl
+none_ahead (a ∷ b ∷ ls) r h x y l k = grind (arith, nat_tests)
+
+pub reached_next : (s : Space) (place : List ℕ) (n r h x y : ℕ) (j : Join) (more : ℕ) (labels : List ℕ) → (k : HasReached s place n r h) → at_or_after (r ∷ h ∷ []) (x ∷ y ∷ []) ≡ true → HasJoin s k.at x y j → HasGone s k.at x y more labels → NoneBeyond (MayFollow j) 1 [] labels → HasReached s place (n + more) x (y + 1)
+reached_next s place n r h x y j more labels k later i gone none = record {
+  at = gone.after;
+  passed = pass_more s n more place k.at gone.after k.passed gone.passed;
+  come = come_to_next_head s gone.after x y labels j gone.come gone.alike i.join.planned i.join.is none;
+  same = λ u v e.
+      let ahead : at_or_after (x ∷ y ∷ []) (u ∷ v ∷ []) ≡ true = grind (arith, nat_tests) in
+      k.same u v (after_by (r ∷ h ∷ []) (x ∷ y ∷ []) (u ∷ v ∷ []) later ahead) ∙ none_ahead k.at x y u v i.come.later e ∙ sym (none_ahead gone.after x y u v gone.come.later e);
+}
 
 -- the least trial of a plan to which a search has come, and on where it has none
 pub found_at_join : (s : Space) (place : List ℕ) (r h : ℕ) (j : Join) → HasJoin s place r h j → (ls : List ℕ) → Least (MayFollow j) 1 [] (labels_in place r h) ls → IsNext s place (r ∷ h ∷ ls)

@@ -20,6 +20,7 @@ use Rattle.chr_search.specs.declared.passing.Stop.{Stop}
 use Rattle.chr_search.specs.declared.passing.Stop.TheVariants as stops
 use Rattle.chr_search.specs.declared.search.Whole.{Whole as CodeWhole}
 use Rattle.chr_search.specs.declared.search.Instance.{Instance}
+use Rattle.chr_search.specs.declared.search.Passed.{Passed as CodePassed}
 use Rattle.chr_search.specs.declared.search.Then.{Then as CodeThen}
 use Rattle.chr_search.specs.declared.search.Then.TheVariants as thens
 use Rattle.chr_search.specs.Positions.{at_or_after, past}
@@ -94,34 +95,31 @@ PassesIn j zero place after = after ≡ place
 PassesIn j (suc n) place after =
     (middle : List ℕ) × PassesOneIn j place middle × PassesIn j n middle after
 
--- So many trials of a join are passed over from one place to another: at most as many as were asked
--- for, and as many where that is why no more are.
-pub record HasPassed (j : Join) (most : ℕ) (place : List ℕ) (passed : Passed) (after : List ℕ)
-    : Type 0 where
+-- so many trials were passed over: at most as many as were asked for, as many where that is why no
+-- more were, and fewer where none is left
+pub record IsCounted (most : ℕ) (passed : Passed) : Type 0 where
   pub few : passed.count ≤ most
   pub enough : passed.end ≡ ends.Enough → passed.count ≡ most
-  pub passes : PassesIn j passed.count place after
+  pub less : passed.end ≡ ends.NoneLeft → passed.count < most
 
 -- the trial of these labels is whole, under this binding
 abbrev pub AreWhole : Join → List ℕ → List (Option (Value ℕ)) → Type 0
 AreWhole j ls binding = (t : Trial) → IsTrialIn j ls t → IsWholeUnder t binding
 
 -- why no more trials of a join are passed over at a place: the least one is whole, with these
--- labels and this binding; none is left; or as many were passed over as were asked for
+-- labels and this binding; none is left; or as many were passed over as were asked for, and the
+-- labels are the place's
 abbrev pub EndsIn : Join → List ℕ → End → List ℕ → List (Option (Value ℕ)) → Type 0
 EndsIn j place ends.Whole ls binding = Least (MayFollow j) 1 [] place ls × AreWhole j ls binding
 EndsIn j place ends.NoneLeft ls binding = NoneBeyond (MayFollow j) 1 [] place
-EndsIn j place ends.Enough ls binding = Unit {0}
+EndsIn j place ends.Enough ls binding = ls ≡ place
 
--- So many trials of a join are passed over from the first one on, and how that ends. Where there
--- are any, the place moves.
-pub record PassesFirst (j : Join) (place : List ℕ) (n : ℕ) (after : List ℕ) (end : End)
-    (ls : List ℕ) (binding : List (Option (Value ℕ))) : Type 0 where
-  pub labels : List ℕ
-  pub passes : PassesIn j n [] labels
-  pub ends : EndsIn j labels end ls binding
-  pub stays : n ≡ 0 → after ≡ place
-  pub moves : 1 ≤ n → after ≡ labels
+-- so many trials of a join's plan are passed over from a place on, and how that ends
+pub record PassesPlan (j : Join) (place : List ℕ) (passed : Passed) (ls : List ℕ)
+    (binding : List (Option (Value ℕ))) : Type 0 where
+  pub after : List ℕ
+  pub passes : PassesIn j passed.count place after
+  pub ends : EndsIn j after passed.end ls binding
 
 -- where a label stands that comes after these: the next head, and whether it is the rule's last
 pub record IsLastHead {Z : Type 0} (j : Join) (ls : List ℕ) (at : LastHead Z) : Type 0 where
@@ -151,20 +149,15 @@ IsTried j ls Misfit binding = AreJudged j ls Misfit
 IsTried j ls Part binding = AreJudged j ls Part × IsReady j ls binding
 IsTried j ls Whole binding = AreWhole j ls binding
 
--- what comes after n misfits, where from one label on the next is looked for: a part or a whole
--- trial, while they are fewer than were asked for; none; or perhaps more, where they are as many
+-- what comes after n misfits, where from one label on the next is looked for: a part, a whole trial
+-- or none, while they are fewer than were asked for; or perhaps more, where they are as many
 abbrev pub ComesNext : Join → List ℕ → ℕ → ℕ → ℕ → Next → List (Option (Value ℕ)) → Type 0
 ComesNext j ls n most from (nexts.Part x) binding =
     (n < most) × LeastFrom (MayFollow j ls) from x × IsTried j (ls ++ x ∷ []) Part binding
 ComesNext j ls n most from (nexts.Whole x) binding =
     (n < most) × LeastFrom (MayFollow j ls) from x × IsTried j (ls ++ x ∷ []) Whole binding
-ComesNext j ls n most from nexts.NoneLeft binding = NoneFrom (MayFollow j ls) from
+ComesNext j ls n most from nexts.NoneLeft binding = (n < most) × NoneFrom (MayFollow j ls) from
 ComesNext j ls n most from nexts.Enough binding = n ≡ most
-
--- where a search goes on after n misfits of these labels and one more
-abbrev pub settled : ℕ → List ℕ → ℕ → List ℕ → List ℕ
-settled zero ls next place = place
-settled (suc n) ls next place = ls ++ next ∷ []
 
 -- A place below labels: these and a rest. What comes there below them goes on with a number from
 -- one on.
@@ -188,13 +181,20 @@ abbrev pub EndsBelow : Join → List ℕ → List ℕ → End → List ℕ → L
 EndsBelow j path place ends.Whole ls binding =
     Least (MayFollow j) 1 [] place ls × AreWhole j ls binding
 EndsBelow j path place ends.NoneLeft ls binding = (ls ≡ path) × IsDone j path place
-EndsBelow j path place ends.Enough ls binding = Unit {0}
+EndsBelow j path place ends.Enough ls binding = ls ≡ place
+
+-- so many trials are passed over from a place below labels on, and how that ends
+pub record PassesBelow (j : Join) (path place : List ℕ) (passed : Passed) (ls : List ℕ)
+    (binding : List (Option (Value ℕ))) : Type 0 where
+  pub after : List ℕ
+  pub passes : PassesIn j passed.count place after
+  pub ends : EndsBelow j path after passed.end ls binding
 
 -- a place just after a part of these labels and one more, which has this binding
 pub record IsAfterPart (j : Join) (path : List ℕ) (x : ℕ) (place : List ℕ)
     (binding : List (Option (Value ℕ))) : Type 0 where
   pub follows : MayFollow j path x
-  pub ready : IsReady j (path ++ x ∷ []) binding
+  pub tried : IsTried j (path ++ x ∷ []) Part binding
   pub place_is : place ≡ (path ++ x ∷ []) ++ 0 ∷ []
 
 -- the same, or else the last one is a part of these labels and one from a label on
@@ -202,6 +202,14 @@ abbrev pub StopsAt : Join → List ℕ → ℕ → Stop → List ℕ → List �
 StopsAt j path from (stops.Part x) place ls binding =
     (ls ≡ path) × (from ≤ x) × IsAfterPart j path x place binding
 StopsAt j path from (stops.End end) place ls binding = EndsBelow j path place end ls binding
+
+-- so many trials of these labels and one from a label on are passed over from a place on, and how
+-- that ends
+pub record PassesLevel (j : Join) (path : List ℕ) (from : ℕ) (place : List ℕ) (n : ℕ) (stop : Stop)
+    (ls : List ℕ) (binding : List (Option (Value ℕ))) : Type 0 where
+  pub after : List ℕ
+  pub passes : PassesIn j n place after
+  pub stops : StopsAt j path from stop after ls binding
 
 -- what was found is the next trial at a place, and it is whole under this binding
 pub record IsWholeNext (s : Space) (place : List ℕ) (w : CodeWhole)
@@ -222,3 +230,18 @@ abbrev pub IsThen : Space → List ℕ → CodeThen → Instance → List (Optio
 IsThen s place thens.Whole i binding = IsWholeNext s place i.whole binding
 IsThen s place thens.Done i binding = NoneLeft s place
 IsThen s place thens.More i binding = Unit {0}
+
+-- where a search stands once trials were passed over: after the last of them, where perhaps more
+-- come, and else where it stood before
+abbrev pub left_at : CodeThen → List ℕ → List ℕ → List ℕ
+left_at thens.More place after = after
+left_at thens.Whole place after = place
+left_at thens.Done place after = place
+
+-- So many trials are passed over from a place on, and what comes then. The search stands here then.
+pub record PassesTo (s : Space) (passed : CodePassed) (i : Instance)
+    (binding : List (Option (Value ℕ))) (place here : List ℕ) : Type 0 where
+  pub after : List ℕ
+  pub passes : Passes s passed.count place after
+  pub next : IsThen s after passed.then i binding
+  pub stands : here ≡ left_at passed.then place after

@@ -1,16 +1,14 @@
 -- Searches that pass over trials plan by plan.
-use Rattle.std.specs.Prelude.{◌≡◌, ℕ, zero, suc, ◌≤◌, ◌==◌, true, ◌&&◌, if◌then◌else◌, List, [], ◌∷◌, length, take, Option, Some}
-use Rattle.chr_value.specs.Atoms.{Atom, Value}
+use Rattle.std.specs.Prelude.{◌≡◌, ℕ, zero, suc, ◌==◌, true, ◌&&◌, if◌then◌else◌, List, [], ◌∷◌, length, take, Some}
+use Rattle.chr_value.specs.Atoms.{Atom}
 use Rattle.chr_value.specs.declared.atom.Pred.{Pred}
 use Rattle.chr_rule.specs.Rules.{Simpagation}
 use Rattle.chr_rule.specs.Occurrences.{HeadsFrom, AreHeadsFrom}
 use Rattle.chr_model.specs.Stores.{atom_at}
 use Rattle.chr_plan.specs.declared.order.Step.{Step}
-use Rattle.chr_search.specs.declared.passing.End.{End}
 use Rattle.chr_search.specs.Positions.{at_or_after}
 use Rattle.chr_search.specs.Trials.{Join, MayFollow, Space, join_in, IsPlanned, IsTrial}
 use Rattle.chr_search.specs.Partners.{HasPlan}
-use Rattle.chr_search.specs.Passing.{PassesIn, EndsIn}
 
 -- the label at a head, of labels in a plan's order, 0 where there is none; and the labels at the
 -- next n heads
@@ -45,16 +43,6 @@ abbrev pub labels_in : List ℕ → ℕ → ℕ → List ℕ
 labels_in [] r h = []
 labels_in (x ∷ []) r h = []
 labels_in (x ∷ y ∷ ls) r h = if (x == r) && (y == h) then ls else []
-
--- So many trials of a plan are passed over from a place on, and how that ends. Where there are any,
--- the place moves.
-pub record PassesPlan (j : Join) (r h : ℕ) (place : List ℕ) (n : ℕ) (after : List ℕ) (end : End)
-    (ls : List ℕ) (binding : List (Option (Value ℕ))) : Type 0 where
-  pub labels : List ℕ
-  pub passes : PassesIn j n (labels_in place r h) labels
-  pub ends : EndsIn j labels end ls binding
-  pub stays : n ≡ 0 → after ≡ place
-  pub moves : 1 ≤ n → after ≡ r ∷ h ∷ labels
 
 -- A search with this place has come to the plan of a rule and a head: it is at its place or a later
 -- one, and no admissible trial from the place on lies before it.

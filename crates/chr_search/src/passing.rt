@@ -1,5 +1,5 @@
 //! Trials in the store that are judged without being made.
-ghost use Rattle.std.specs.Prelude.{◌≡◌, ◌↔◌, ◌==◌, ◌≤◌, ◌<◌, ◌∷◌, ◌++◌, [], ℕ, List, length, take, drop, Some, IfSome, IsSome, MatchOption, IsTrue};
+ghost use Rattle.std.specs.Prelude.{◌≡◌, ◌↔◌, ◌==◌, ◌≤◌, ◌<◌, ◌∷◌, ◌++◌, [], ℕ, List, length, drop, Some, IfSome, IsSome, MatchOption, IsTrue};
 ghost use Rattle.std.specs.List.{list_any};
 ghost use Rattle.chr_value.specs.Atoms.{Atom as AtomView};
 ghost use Rattle.chr_value.specs.Stores.{atom_at};
@@ -8,18 +8,17 @@ ghost use Rattle.chr_search.specs.declared.passing.End.TheVariants as ends;
 ghost use Rattle.chr_search.specs.declared.passing.Stop.TheVariants as stops;
 ghost use Rattle.chr_search.specs.Joined.{join_of};
 ghost use Rattle.chr_search.specs.Partners.{HasPlan, IsReady, IsPartnerFrom};
-ghost use Rattle.chr_search.specs.Passing.{IsTrialIn, BeginsTrials, AreMisfits, PassesIn, PassesFirst, HasPassed, EndsIn, IsLastHead, IsLevel, IsNarrowedIf, IsTried, ComesNext, settled, IsBelow, EndsBelow, StopsAt};
+ghost use Rattle.chr_search.specs.Passing.{IsTrialIn, BeginsTrials, AreMisfits, IsCounted, PassesPlan, IsLastHead, IsLevel, IsNarrowedIf, IsTried, ComesNext, IsBelow, PassesBelow, PassesLevel};
 ghost use Rattle.chr_search.specs.Tree.{Grows};
 ghost use Rattle.chr_search.specs.Trials.{IsInTurn, MayFollow};
 ghost use Rattle.chr_search.specs.Verdicts.{Trial};
 
 use crate::join::Join;
 use crate::judged::Verdict;
-use crate::position::{put_at, set_alone};
+use crate::position::set_alone;
 use crate::search::Instance;
 use chr_guard::instance::becomes_instance;
 use chr_guard::{Binding, Known, fit_partner};
-use chr_log::{Labels, copy_labels};
 use chr_rule::RuleAtom;
 use chr_store::{Label, Matches};
 use chr_value::Atom;
@@ -127,16 +126,6 @@ impl<'l> Path<'l> {
             Some((_first, others)) => others,
         };
         Path { labels, others }
-    }
-}
-
-/// Moves a place behind misfits, where there were any.
-fn settle(place: &mut Labels, depth: usize, count: u64, next: Label)
-    requires { 1 ≤ count → depth < 6 }
-    ensures { place.new.items ≡ settled count (take depth place.old.items) next place.old.items }
-{
-    if count > 0 {
-        put_at(place, depth, next);
     }
 }
 
@@ -353,54 +342,53 @@ impl<'s, A: Allocator + Copy> Join<'s, A> {
         level: &mut Level<'s, A>,
         from: Label,
         most: u64,
-        place: &mut Labels,
         instance: &mut Instance,
         binding: &mut Binding<'s, A>,
     ) -> Stopped
+        requires some { 1 ≤ most }
         requires begins { BeginsTrials (join_of self.now) }
+        requires grows { Grows (MayFollow (join_of self.now)) [] instance.old.labels.items }
         requires ready { IsReady (join_of self.now) instance.old.labels.items binding.old }
         requires level { IsLevel (join_of self.now) instance.old.labels.items binding.old level.old }
-        requires below { IsBelow (join_of self.now) instance.old.labels.items place.old.items from }
         ensures few { result.count ≤ most }
         ensures enough { result.stop ≡ stops.End ends.Enough → result.count ≡ most }
-        ensures passes { PassesIn (join_of self.now) result.count place.old.items place.new.items }
-        ensures stops { StopsAt (join_of self.now) instance.old.labels.items from result.stop place.new.items instance.new.labels.items binding.new }
+        ensures less { result.stop ≡ stops.End ends.NoneLeft → result.count < most }
+        ensures passes { (place : List ℕ) → IsBelow (join_of self.now) instance.old.labels.items place from → PassesLevel (join_of self.now) instance.old.labels.items from place result.count result.stop instance.new.labels.items binding.new }
         ensures same { level.new ≡ level.old }
         ensures keeps { Keeps binding.old binding.new }
     {
         let run = self.pass_run(level, from, most, instance, binding);
-        let depth = instance.labels.len();
-        settle(place, depth, run.count, run.next);
         let (count, stop) = match run.then {
-            Next::Part(label) => {
-                put_at(place, depth, label);
-                place.push(0);
-                (run.count + 1, Stop::Part(label))
-            }
+            Next::Part(label) => (run.count + 1, Stop::Part(label)),
             Next::Whole(label) => {
                 instance.labels.push(label);
                 (run.count, Stop::End(End::Whole))
             }
             Next::NoneLeft => (run.count, Stop::End(End::NoneLeft)),
-            Next::Enough => (run.count, Stop::End(End::Enough)),
+            Next::Enough => {
+                instance.labels.push(run.next);
+                (run.count, Stop::End(End::Enough))
+            }
         };
         Stopped { count, stop }
     }
 
-    /// Passes over the trials of the instance's labels and more from one on, at most so many.
+    /// Passes over the trials of the instance's labels and more from one on, at most so many. The labels become those of a
+    /// trial that is whole, or of the place at which the search goes on where as many were passed over as were asked for, and
+    /// else they stay.
     fn pass_below(
         &self,
         mut from: Label,
         most: u64,
-        place: &mut Labels,
         instance: &mut Instance,
         binding: &mut Binding<'s, A>,
     ) -> Passed
+        requires some { 1 ≤ most }
         requires begins { BeginsTrials (join_of self.now) }
+        requires grows { Grows (MayFollow (join_of self.now)) [] instance.old.labels.items }
         requires ready { IsReady (join_of self.now) instance.old.labels.items binding.old }
-        requires below { IsBelow (join_of self.now) instance.old.labels.items place.old.items from }
-        ensures passed { HasPassed (join_of self.now) most place.old.items result place.new.items }
-        ensures ends { EndsBelow (join_of self.now) instance.old.labels.items place.new.items result.end instance.new.labels.items binding.new }
+        ensures counted { IsCounted most result }
+        ensures passes { (place : List ℕ) → IsBelow (join_of self.now) instance.old.labels.items place from → PassesBelow (join_of self.now) instance.old.labels.items place result instance.new.labels.items binding.new }
         ensures keeps { Keeps binding.old binding.new }
     {
         let mut count = 0;
@@ -409,14 +397,19 @@ impl<'s, A: Allocator + Copy> Join<'s, A> {
             return Passed { count, end };
         };
         loop {
-            let beside = self.pass_level(&mut level, from, most - count, place, instance, binding);
+            let beside = self.pass_level(&mut level, from, most - count, instance, binding);
             count += beside.count;
             let label = match beside.stop {
                 Stop::Part(label) => label,
                 Stop::End(end) => return Passed { count, end },
             };
             instance.labels.push(label);
-            let below = self.pass_below(0, most - count, place, instance, binding);
+            if count == most {
+                instance.labels.push(0);
+                let end = End::Enough;
+                return Passed { count, end };
+            }
+            let below = self.pass_below(0, most - count, instance, binding);
             count += below.count;
             let End::NoneLeft = below.end else {
                 let end = below.end;
@@ -435,20 +428,19 @@ impl<'s, A: Allocator + Copy> Join<'s, A> {
         first: Label,
         below: &[Label],
         most: u64,
-        place: &mut Labels,
         instance: &mut Instance,
         binding: &mut Binding<'s, A>,
     ) -> Passed
+        requires some { 1 ≤ most }
         requires begins { BeginsTrials (join_of self.now) }
         requires grows { Grows (MayFollow (join_of self.now)) [] instance.old.labels.items }
         requires ready { IsReady (join_of self.now) instance.old.labels.items binding.old }
-        requires place { place.old.items ≡ instance.old.labels.items ++ first ∷ below.now }
-        ensures passed { HasPassed (join_of self.now) most place.old.items result place.new.items }
-        ensures ends { EndsBelow (join_of self.now) instance.old.labels.items place.new.items result.end instance.new.labels.items binding.new }
+        ensures counted { IsCounted most result }
+        ensures passes { PassesBelow (join_of self.now) instance.old.labels.items (instance.old.labels.items ++ first ∷ below.now) result instance.new.labels.items binding.new }
         ensures keeps { Keeps binding.old binding.new }
     {
         let Some((next, rest)) = below.split_first() else {
-            return self.pass_below(first, most, place, instance, binding);
+            return self.pass_below(first, most, instance, binding);
         };
         let mut count = 0;
         if first > self.view.active() {
@@ -458,7 +450,7 @@ impl<'s, A: Allocator + Copy> Join<'s, A> {
         let known = binding.known();
         if self.narrow_by(instance.labels.as_slice(), binding, first) {
             instance.labels.push(first);
-            let deeper = self.pass_on(*next, rest, most, place, instance, binding);
+            let deeper = self.pass_on(*next, rest, most, instance, binding);
             let End::NoneLeft = deeper.end else {
                 return deeper;
             };
@@ -466,7 +458,7 @@ impl<'s, A: Allocator + Copy> Join<'s, A> {
             instance.labels.pop();
         }
         binding.return_to(known);
-        let beside = self.pass_below(first + 1, most - count, place, instance, binding);
+        let beside = self.pass_below(first + 1, most - count, instance, binding);
         Passed {
             count: count + beside.count,
             end: beside.end,
@@ -492,48 +484,45 @@ impl<'s, A: Allocator + Copy> Join<'s, A> {
     }
 
     /// Passes over the trials from the first one on, up to one that is whole, at most so many. All of them begin with the
-    /// active label. The place becomes that at which the search goes on, but stays where no trial is passed over; where the
-    /// search ends before a trial that is whole, `instance` becomes that one.
+    /// active label. The instance's labels become those of a trial that is whole, or of the place at which the search goes on
+    /// where as many were passed over as were asked for.
     #[inline(always)]
     pub(crate) fn pass_first(
         &self,
         most: u64,
-        place: &mut Labels,
         instance: &mut Instance,
         binding: &mut Binding<'s, A>,
     ) -> Passed
+        requires some { 1 ≤ most }
         requires begins { BeginsTrials (join_of self.now) }
-        ensures few { result.count ≤ most }
-        ensures enough { result.end ≡ ends.Enough → result.count ≡ most }
-        ensures passed { PassesFirst (join_of self.now) place.old.items result.count place.new.items result.end instance.new.labels.items binding.new }
+        ensures counted { IsCounted most result }
+        ensures passes { PassesPlan (join_of self.now) [] result instance.new.labels.items binding.new }
     {
-        if most == 0 {
-            return Passed {
-                count: 0,
-                end: End::Enough,
-            };
-        }
         let active = self.view.active();
         match self.judge_first(binding) {
             Verdict::Misfit => {
-                set_alone(place, active + 1);
-                Passed {
-                    count: 1,
-                    end: End::NoneLeft,
+                let count = 1;
+                if most > count {
+                    let end = End::NoneLeft;
+                    return Passed { count, end };
                 }
+                set_alone(&mut instance.labels, active + 1);
+                let end = End::Enough;
+                Passed { count, end }
             }
             Verdict::Whole => {
                 set_alone(&mut instance.labels, active);
-                Passed {
-                    count: 0,
-                    end: End::Whole,
-                }
+                let end = End::Whole;
+                Passed { count: 0, end }
             }
             Verdict::Part => {
                 set_alone(&mut instance.labels, active);
-                set_alone(place, active);
-                place.push(0);
-                let below = self.pass_below(0, most - 1, place, instance, binding);
+                if most == 1 {
+                    instance.labels.push(0);
+                    let end = End::Enough;
+                    return Passed { count: 1, end };
+                }
+                let below = self.pass_below(0, most - 1, instance, binding);
                 Passed {
                     count: 1 + below.count,
                     end: below.end,
@@ -542,26 +531,26 @@ impl<'s, A: Allocator + Copy> Join<'s, A> {
         }
     }
 
-    /// Passes over the trials at or after a place up to one that is whole, at most so many. The place becomes that at which
-    /// the search goes on; where it ends before a trial that is whole, `instance` becomes that one.
+    /// Passes over the trials at or after a place up to one that is whole, at most so many. The instance's labels become those
+    /// of a trial that is whole, or of the place at which the search goes on where as many were passed over as were asked for.
     pub(crate) fn pass_from(
         &self,
+        place: &[Label],
         most: u64,
-        place: &mut Labels,
         instance: &mut Instance,
         binding: &mut Binding<'s, A>,
     ) -> Passed
+        requires some { 1 ≤ most }
         requires begins { BeginsTrials (join_of self.now) }
-        requires some { 1 ≤ length place.old.items }
-        ensures passed { HasPassed (join_of self.now) most place.old.items result place.new.items }
-        ensures ends { EndsIn (join_of self.now) place.new.items result.end instance.new.labels.items binding.new }
+        requires place { 1 ≤ length place.now }
+        ensures counted { IsCounted most result }
+        ensures passes { PassesPlan (join_of self.now) place.now result instance.new.labels.items binding.new }
     {
         instance.labels.clear();
         binding.reset(self.rule.variables());
-        let all = copy_labels(place);
-        let Some((first, below)) = all.as_slice().split_first() else {
+        let Some((first, below)) = place.split_first() else {
             unreachable!();
         };
-        self.pass_on(*first, below, most, place, instance, binding)
+        self.pass_on(*first, below, most, instance, binding)
     }
 }

@@ -162,6 +162,20 @@ impl Position {
         self.head = trial.head();
     }
 
+    /// Becomes that of labels, at a rule and a head.
+    pub(crate) fn become_at(&mut self, rule: u16, head: u8, labels: &Labels)
+        requires rule { 1 ≤ rule }
+        requires head { 1 ≤ head }
+        ensures { self.new ≡ rule ∷ head ∷ labels.now.items }
+    {
+        self.labels.clear();
+        for label in labels.as_slice() {
+            self.labels.push(*label);
+        }
+        self.rule = rule;
+        self.head = head;
+    }
+
     /// Becomes that of the active label alone, at a rule and a head.
     pub(crate) fn become_alone(&mut self, rule: u16, head: u8, label: Label)
         requires rule { 1 ≤ rule }

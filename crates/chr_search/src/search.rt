@@ -3,7 +3,6 @@ ghost use Rattle.std.specs.Prelude.{◌≡◌, ◌↔◌, ℕ, suc, ◌+◌, ◌
 ghost use Rattle.chr_value.specs.Stores.{atom_at, greatest_label};
 ghost use Rattle.chr_plan.specs.Plans.{ArePlans};
 ghost use Rattle.chr_store.specs.Labels.{entered};
-ghost use Rattle.chr_search.specs.declared.passing.End.TheVariants as ends;
 ghost use Rattle.chr_search.specs.declared.judged.Verdict.TheVariants as verdicts;
 ghost use Rattle.chr_search.specs.declared.search.Then.TheVariants as thens;
 ghost use Rattle.chr_search.specs.Positions.{at_or_after, begins, beginning, past, front};
@@ -12,8 +11,8 @@ ghost use Rattle.chr_search.specs.Answers.{IsAnswer, IsAnswerBehind, IsToldNext,
 ghost use Rattle.chr_search.specs.Verdicts.{Trial as TrialView, IsPart, position as position_of};
 ghost use Rattle.chr_search.specs.Fronts.{ComeAfter};
 ghost use Rattle.chr_search.specs.Joined.{join_of};
-ghost use Rattle.chr_search.specs.Passing.{IsTrialIn, BeginsTrials, Passes, IsThen};
-ghost use Rattle.chr_search.specs.PlanByPlan.{labels_at_heads, AreAhead, IsUnplanned, IsJoinOf, labels_in, PassesPlan, HasComeTo, IsNextJoin};
+ghost use Rattle.chr_search.specs.Passing.{IsTrialIn, BeginsTrials, IsCounted, PassesPlan, PassesTo};
+ghost use Rattle.chr_search.specs.PlanByPlan.{labels_at_heads, AreAhead, IsUnplanned, IsJoinOf, labels_in, HasComeTo, IsNextJoin};
 
 use crate::join::Join;
 use crate::judged::{Judged, Verdict};
@@ -563,34 +562,25 @@ impl Search {
         }
     }
 
-    /// Passes over the trials of a plan at or after the position, at most so many. The position becomes that after the last
-    /// of them.
+    /// Passes over the trials of the plan at which a walk stands, at or after the position, at most so many.
     fn pass_in_plan<'s, A: Allocator + Copy>(
-        &mut self,
+        &self,
         join: &Join<'s, A>,
         walk: &Walk<'_>,
         most: u64,
         instance: &mut Instance,
         bound: &mut Binding<'s, A>,
     ) -> passing::Passed
-        requires rule { 1 ≤ walk.now.rule }
-        requires head { 1 ≤ walk.now.head }
+        requires some { 1 ≤ most }
         requires begins { BeginsTrials (join_of join.now) }
-        ensures few { result.count ≤ most }
-        ensures enough { result.end ≡ ends.Enough → result.count ≡ most }
-        ensures label { self.new.label ≡ self.old.label }
-        ensures passed { PassesPlan (join_of join.now) walk.now.rule walk.now.head self.old.place result.count self.new.place result.end instance.new.labels.items bound.new }
+        ensures counted { IsCounted most result }
+        ensures passes { PassesPlan (join_of join.now) (labels_in self.now.place walk.now.rule walk.now.head) result instance.new.labels.items bound.new }
     {
-        let position = &mut self.position;
-        if position.rule == walk.rule && position.head == walk.head && !position.labels.is_empty() {
-            return join.pass_from(most, &mut position.labels, instance, bound);
+        let place = self.labels_in(walk);
+        if place.is_empty() {
+            return join.pass_first(most, instance, bound);
         }
-        let passed = join.pass_first(most, &mut position.labels, instance, bound);
-        if passed.count > 0 {
-            position.rule = walk.rule;
-            position.head = walk.head;
-        }
-        passed
+        join.pass_from(place, most, instance, bound)
     }
 
     /// Passes over trials as [`pass_over`](Search::pass_over) does, in a view for its label, which has this atom.
@@ -610,42 +600,42 @@ impl Search {
         ensures few { result.count ≤ most }
         ensures more { result.then ≡ thens.More → result.count ≡ most }
         ensures label { self.new.label ≡ self.old.label }
-        ensures passed { Passes (older program.now plans.now view.now.store.entries self.old.label) result.count self.old.place self.new.place }
-        ensures then { IsThen (older program.now plans.now view.now.store.entries self.old.label) self.new.place result.then instance.new bound.new }
+        ensures passed { PassesTo (older program.now plans.now view.now.store.entries self.old.label) result instance.new bound.new self.old.place self.new.place }
     {
+        let mut count = 0;
+        if most == 0 {
+            let then = Then::More;
+            return Passed { count, then };
+        }
         // For the proof: the labels of a store are at most the greatest.
         let _given = view.active();
         let mut walk = self.first_walk(program, atom);
-        let mut count = 0;
         while let Some(join) = Search::next_join(program, plans, view, &mut walk) {
             let passed = self.pass_in_plan(&join, &walk, most - count, instance, bound);
             count += passed.count;
             match passed.end {
                 End::NoneLeft => walk.head += 1,
                 End::Enough => {
-                    return Passed {
-                        count,
-                        then: Then::More,
-                    };
+                    self.position
+                        .become_at(walk.rule, walk.head, &instance.labels);
+                    let then = Then::More;
+                    return Passed { count, then };
                 }
                 End::Whole => {
                     instance.set_whole(&join, &walk);
-                    return Passed {
-                        count,
-                        then: Then::Whole,
-                    };
+                    let then = Then::Whole;
+                    return Passed { count, then };
                 }
             }
         }
-        Passed {
-            count,
-            then: Then::Done,
-        }
+        let then = Then::Done;
+        Passed { count, then }
     }
 
     /// Passes over the next trials up to one that is whole, at most so many: as if each of them had been asked for, judged,
     /// and the search advanced after it. Returns how many, and what comes then: where that is a whole trial, `instance`
-    /// becomes its instance, and `bound` what its variables are bound to. It takes no memory.
+    /// becomes its instance, and `bound` what its variables are bound to. Where perhaps more come, the search stands after the
+    /// last of them then, and else it stays. It takes no memory.
     pub fn pass_over<'s, A: Allocator + Copy>(
         &mut self,
         program: &'s Program<A>,
@@ -659,8 +649,7 @@ impl Search {
         ensures few { result.count ≤ most }
         ensures more { result.then ≡ thens.More → result.count ≡ most }
         ensures label { self.new.label ≡ self.old.label }
-        ensures passed { Passes (older program.now plans.now store.now.entries self.old.label) result.count self.old.place self.new.place }
-        ensures then { IsThen (older program.now plans.now store.now.entries self.old.label) self.new.place result.then instance.new bound.new }
+        ensures passed { PassesTo (older program.now plans.now store.now.entries self.old.label) result instance.new bound.new self.old.place self.new.place }
     {
         let Some(atom) = store.get(self.label) else {
             return Passed {
@@ -690,8 +679,7 @@ impl Search {
         ensures few { result.count ≤ most }
         ensures more { result.then ≡ thens.More → result.count ≡ most }
         ensures label { self.new.label ≡ self.old.label }
-        ensures passed { Passes (older program.now plans.now (entered store.now atom.now).entries self.old.label) result.count self.old.place self.new.place }
-        ensures then { IsThen (older program.now plans.now (entered store.now atom.now).entries self.old.label) self.new.place result.then instance.new bound.new }
+        ensures passed { PassesTo (older program.now plans.now (entered store.now atom.now).entries self.old.label) result instance.new bound.new self.old.place self.new.place }
     {
         // For the proof: the labels of a store are below its next one.
         let _next = store.next_label();

@@ -68,7 +68,8 @@ overflow_add-next g c =
     omega (arith, label_small _ labels label t.0 t.1)
 
 pub returns-in_default-clause-then : goal.returns-in_default-clause-then
-returns-in_default-clause-then g c = subst (λ (ls : List ℕ). NoneFrom (MayFollow (join_of c.args.self.now) ls) c.loop-count.next) (c.of-path.ensures.labels ∙ c.as_slice.ensures.value) c.in_default.ensures.least
+returns-in_default-clause-then g c =
+    (c.loop-count-test.true, subst (λ (ls : List ℕ). NoneFrom (MayFollow (join_of c.args.self.now) ls) c.loop-count.next) (c.of-path.ensures.labels ∙ c.as_slice.ensures.value) c.in_default.ensures.least)
 
 pub returns-in-Part-clause-then : goal.returns-in-Part-clause-then
 returns-in-Part-clause-then g c =
