@@ -17,6 +17,8 @@ use Rattle.chr_value.specs.Atoms.{Value, Atom}
 use Rattle.chr_search.specs.Trials.{Space}
 use Rattle.chr_search.specs.declared.search.Instance.{Instance}
 use Rattle.chr_search.specs.declared.search.Passed.{Passed}
+use Rattle.chr_search.specs.declared.search.Then.{Then}
+use Rattle.chr_search.specs.declared.search.Then.TheVariants as thens
 use Rattle.chr_tickets.specs.Passed.{gone_over, PassesOver}
 use Rattle.chr_calls.specs.declared.answers.TicketState.TheVariants as states
 use Rattle.chr_tickets.specs.declared.ticket.Goal.TheVariants as goals
@@ -212,12 +214,14 @@ still_queued {Z} {m} {L} {x} first slots t n f w queued shows live is becomes le
 -- ---- a ticket whose search passes over trials, in its place
 
 -- it keeps its mark
-keeps_mark : (n : ℕ) (place : List ℕ) (x : Ticket) → (gone_over n place x).stray ≡ x.stray
-keeps_mark zero place x = refl
-keeps_mark (suc n) place x = refl
+keeps_mark : (come : Then) (n : ℕ) (place : List ℕ) (x : Ticket) → (gone_over come n place x).stray ≡ x.stray
+keeps_mark thens.More zero place x = refl
+keeps_mark thens.More (suc n) place x = refl
+keeps_mark thens.Whole n place x = refl
+keeps_mark thens.Done n place x = refl
 
 pub still_unmarked : {s : Space} {passed : Passed} {instance : Instance} {binding : List (Option (Value ℕ))} {x after : Ticket} → PassesOver s passed instance binding x after → x.stray ≡ false → after.stray ≡ false
-still_unmarked {s} {passed} {instance} {binding} {x} {after} over unmarked = ap (λ (y : Ticket). y.stray) over.after_is ∙ keeps_mark passed.count over.place x ∙ unmarked
+still_unmarked {s} {passed} {instance} {binding} {x} {after} over unmarked = ap (λ (y : Ticket). y.stray) over.after_is ∙ keeps_mark passed.then passed.count over.place x ∙ unmarked
 
 -- the tickets then, and what they have there
 pub tickets_are : {Z : Type 0} {L : List Ticket} {x : CodeTicket Z} (first : ℕ) (slots : List (Slot Z)) (t : ℕ) (w : CodeTicket Z) → listed first slots ≡ L → (ticket_at L t ≡ ended → ⊥) → Some x ≡ get_or slots (t - first) (Some x) → listed first (set slots (t - first) (Some w)) ≡ set L t (shown_ticket w)

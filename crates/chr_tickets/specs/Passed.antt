@@ -12,23 +12,25 @@ use Rattle.chr_search.specs.Passing.{Passes, IsThen}
 use Rattle.chr_search.specs.Reach.{SearchState}
 use Rattle.chr_search.specs.declared.search.Instance.{Instance}
 use Rattle.chr_search.specs.declared.search.Passed.{Passed}
+use Rattle.chr_search.specs.declared.search.Then.{Then as CodeThen}
 use Rattle.chr_search.specs.declared.search.Then.TheVariants as thens
 use Rattle.chr_calls.specs.Tickets.{Ticket, going_on}
 
--- a ticket whose search has passed over so many trials, up to a place: where there are any, it has
--- no candidate
-abbrev pub gone_over : ℕ → List ℕ → Ticket → Ticket
-gone_over zero place x = x
-gone_over (suc n) place x = going_on place x
+-- a ticket whose search has passed over so many trials, up to a place: where there are any and
+-- perhaps more come, it goes on there and has no candidate, and else it is as it was
+abbrev pub gone_over : CodeThen → ℕ → List ℕ → Ticket → Ticket
+gone_over thens.More zero place x = x
+gone_over thens.More (suc n) place x = going_on place x
+gone_over thens.Whole n place x = x
+gone_over thens.Done n place x = x
 
--- the ticket's search passes over trials, and comes to a place, where this is next, under this
--- binding
+-- the ticket's search passes over trials up to a place, where this is next, under this binding
 pub record PassesOver (s : Space) (passed : Passed) (instance : Instance)
     (binding : List (Option (Value ℕ))) (x after : Ticket) : Type 0 where
   pub place : List ℕ
   pub passes : Passes s passed.count x.position place
   pub next : IsThen s place passed.then instance binding
-  pub after_is : after ≡ gone_over passed.count place x
+  pub after_is : after ≡ gone_over passed.then passed.count place x
 
 -- it passes over trials of the label that its goal has and of older ones
 abbrev pub PassesOlder : List (Simpagation ℕ) → PlanList → Store → Passed → Instance →

@@ -12,7 +12,7 @@ use chr_calls::TicketState;
 use chr_guard::{Binding, body};
 use chr_plan::Plans;
 use chr_rule::{Program, RuleAtom};
-use chr_search::{Instance, Judged, Passed, Search, Trial};
+use chr_search::{Instance, Judged, Passed, Search, Then, Trial};
 use chr_store::{Label, Store};
 use chr_value::Atom;
 use std::alloc::{AllocError, Allocator};
@@ -224,8 +224,8 @@ impl<A: Allocator + Copy> Ticket<A> {
         }
     }
 
-    /// Lets the search of an active ticket pass over trials, as [`Search::pass_over`] does. Where there were any, the
-    /// candidate is taken away.
+    /// Lets the search of an active ticket pass over trials, as [`Search::pass_over`] does. Where there were any, and perhaps
+    /// more come, the candidate is taken away; else the ticket stays as it is.
     pub(crate) fn pass_over<'s>(
         &mut self,
         program: &'s Program<A>,
@@ -250,7 +250,7 @@ impl<A: Allocator + Copy> Ticket<A> {
             unreachable!();
         };
         let passed = search.pass_over(program, plans, store, most, instance, bound);
-        if passed.count > 0 {
+        if passed.then == Then::More && passed.count > 0 {
             *candidate = None;
         }
         passed

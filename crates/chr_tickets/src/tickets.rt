@@ -245,7 +245,7 @@ impl<A: Allocator + Copy> Tickets<A> {
     }
 
     /// Lets the search of an active goal pass over trials, as [`Search::pass_over`] does, and gives its answer. Where there
-    /// were any, the candidate is taken away. It takes no memory.
+    /// were any, and perhaps more come, the candidate is taken away; else the tickets stay as they are. It takes no memory.
     pub fn pass_over<'s>(
         &mut self,
         ticket: u64,
