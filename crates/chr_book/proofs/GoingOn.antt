@@ -1,6 +1,6 @@
 -- Rounds of calls: trials are passed over one by one, and the last round fires what was found whole or drops the goal; those of a
 -- ticket that waits are made in the store as it is once its atom is entered, which it needn't be where what fires removes it.
-use Rattle.std.proofs.Common.{◌≡◌, ℕ, zero, suc, List, Option, Some, Ok, refl, sym, ◌∙◌, ap, subst, slice_set, inr, ◌-◌, ◌<◌, length, take, arith, [], ◌∷◌, ◌++◌, None, ap₂, ◌≢◌, ◌==◌, ◌+◌, ◌≤◌, true, false, not, if◌then◌else◌, inl, Result, Err, OnErr}
+use Rattle.std.proofs.Common.{◌≡◌, ℕ, zero, suc, List, Option, Some, Ok, refl, sym, ◌∙◌, ap, subst, slice_set, inr, ◌-◌, ◌<◌, length, take, arith, [], ◌∷◌, ◌++◌, None, ap₂, Bool, ◌≢◌, ◌==◌, ◌+◌, ◌≤◌, true, false, not, if◌then◌else◌, inl, Result, Err, OnErr}
 use Rattle.std.proofs.lemmas.List.{set-get_or, set-set, length-set, append-nil, length-append, set-append_left, length-map, append_assoc}
 use Rattle.std.proofs.lemmas.Bool.Decides.{nat_tests}
 use Rattle.chr_value.specs.Atoms.{Value, Atom}
@@ -18,7 +18,7 @@ use Rattle.chr_store.specs.Labels.{LabelledStore}
 use Rattle.chr_search.specs.Trials.{IsNext, Space, NoneLeft, older}
 use Rattle.chr_search.specs.Verdicts.{position}
 use Rattle.chr_search.specs.Answers.{after_judging}
-use Rattle.chr_search.specs.Passing.{PassesOne, Passes, IsWholeNext, IsThen}
+use Rattle.chr_search.specs.Passing.{PassesOne, Passes, PassesTo, IsWholeNext, IsThen, left_at}
 use Rattle.chr_search.specs.declared.search.Instance.{Instance}
 use Rattle.chr_search.specs.declared.search.Passed.{Passed}
 use Rattle.chr_search.specs.Reach.{SearchState}
@@ -42,16 +42,16 @@ use Rattle.chr_calls.specs.declared.answers.TicketState.TheVariants.{Unknown, Wa
 use Rattle.chr_calls.proofs.Claiming.{activated_keeps, claims_keep}
 use Rattle.chr_calls.specs.declared.answers.Firing.TheVariants as firing
 use Rattle.chr_calls.specs.declared.answers.Dropping.TheVariants as dropping
-use Rattle.chr_tickets.specs.Passed.{gone_over, PassesOver}
+use Rattle.chr_tickets.specs.Passed.{gone_over}
 use Rattle.chr_tickets.specs.Open.{with_goal, with_atom}
 use Rattle.chr_book.specs.Given.{ComesNext}
-use Rattle.chr_book.specs.Passed.{PassesTrial, PassesTrials, FiresTrial, DropsGoal, IsLast, MakesRounds, MakesFewer, PassesMaking, PassesSome, StartsRounds, StartsFewer, PassesBefore}
+use Rattle.chr_book.specs.Passed.{PassesTrial, PassesTrials, FiresTrial, DropsGoal, IsLast, MakesRounds, MakesFewer, PassesMaking, StartsRounds, StartsFewer, PassesBefore}
 use Rattle.chr_book.proofs.Turns.{at_place, place_is, holds_at, holds_set, set_twice, next_turned, now_candidate, with_again, with_dropped}
 use Rattle.chr_book.specs.declared.rounds.Last.{Last}
 use Rattle.chr_book.specs.declared.rounds.Rounds.{Rounds}
 use Rattle.chr_book.specs.Books.{book_of}
-use Rattle.chr_book.specs.Firings.{MakesFound, EndsRounds, MakesBody, EntersGoal, FiresWaiting, EndsStart, fires, enters, EntersOrStays}
-use Rattle.chr_book.proofs.Fired.{rest_back, FiresWhole, goal_stays, IsWholeOf, next_is_live, with_fired, fires_there, fires_whole, next_fires}
+use Rattle.chr_book.specs.Firings.{MakesFound, EndsRounds, MakesBody, EntersGoal, FiresWaiting, EndsStart, fires, enters, EntersOrStays, gone_on}
+use Rattle.chr_book.proofs.Fired.{rest_back, FiresWhole, IsWholeOf, next_is_live, with_fired, fires_there, fires_whole, next_fires}
 use Rattle.chr_book.specs.declared.rounds.Last.TheVariants as lasts
 
 -- ---- trials that are passed over
@@ -85,7 +85,7 @@ pub record IsPast (b : BookState) (seat t k l : ℕ) (place : List ℕ) (tickets
   pub live : HoldsLive (with_tickets b tickets) seat t l
   pub at : (ticket_at tickets t).position ≡ place
 
-pub is_past : (k : ℕ) (b : BookState) (seat t l : ℕ) (place : List ℕ) (tickets : List Ticket) → HoldsLive b seat t l → Passes (space_of b l) k (ticket_at b.tickets t).position place → tickets ≡ slice_set b.tickets t (gone_over k place (ticket_at b.tickets t)) → IsPast b seat t k l place tickets
+pub is_past : (k : ℕ) (b : BookState) (seat t l : ℕ) (place : List ℕ) (tickets : List Ticket) → HoldsLive b seat t l → Passes (space_of b l) k (ticket_at b.tickets t).position place → tickets ≡ slice_set b.tickets t (gone_over thens.More k place (ticket_at b.tickets t)) → IsPast b seat t k l place tickets
 is_past zero b seat t l place tickets h p e = subst (IsPast b seat t 0 l place) (sym (e ∙ set-get_or b.tickets t ended)) (record { passes = refl; live = h; at = sym p })
 is_past (suc k) b seat t l place tickets h p e = subst (IsPast b seat t (suc k) l place) (sym e) (record {
   passes = passes_all k b seat t l (ticket_at b.tickets t).position place p h refl;
@@ -93,9 +93,15 @@ is_past (suc k) b seat t l place tickets h p e = subst (IsPast b seat t (suc k) 
   at = place_is b t l place h.holds.goal;
 })
 
--- the ticket's search has passed over them
-pub gone_past : (b : BookState) (seat t l : ℕ) (passed : Passed) (instance : Instance) (binding : List (Option (Value ℕ))) (x : Ticket) → HoldsLive b seat t l → (over : PassesOver (space_of b l) passed instance binding (ticket_at b.tickets t) x) → IsPast b seat t passed.count l over.place (slice_set b.tickets t x)
-gone_past b seat t l passed instance binding x h over = is_past passed.count b seat t l over.place (slice_set b.tickets t x) h over.passes (ap (slice_set b.tickets t) over.after_is)
+-- no round
+no_rounds : {seat t most : ℕ} {b : BookState} (n : BookState) → n ≡ b → 0 < most → MakesFewer seat t most b n
+no_rounds n same some = record { passed = 0; fewer = some; passes = same }
+
+-- so many rounds, up to where its search stands: none of them, where it stays
+gone_rounds : (come : Then) (k : ℕ) (b : BookState) (seat t l most : ℕ) (place : List ℕ) (tickets : List Ticket) → HoldsLive b seat t l → Passes (space_of b l) k (ticket_at b.tickets t).position place → tickets ≡ slice_set b.tickets t (gone_over come k place (ticket_at b.tickets t)) → k < most → MakesFewer seat t most b (with_tickets b tickets)
+gone_rounds thens.More k b seat t l most place tickets h p e less = record { passed = k; fewer = less; passes = (is_past k b seat t l place tickets h p e).passes }
+gone_rounds thens.Whole k b seat t l most place tickets h p e less = no_rounds (with_tickets b tickets) (ap (with_tickets b) (e ∙ set-get_or b.tickets t ended)) (omega arith)
+gone_rounds thens.Done k b seat t l most place tickets h p e less = no_rounds (with_tickets b tickets) (ap (with_tickets b) (e ∙ set-get_or b.tickets t ended)) (omega arith)
 
 -- what a book keeps
 pub passes_keep : (k : ℕ) (b n : BookState) (seat t : ℕ) → PassesTrials seat t k b n → IsKept b → IsKept n
@@ -179,12 +185,8 @@ ended_rounds rules plans names log entries st left ts now more pushed tickets se
     (fires_whole seat t (length now) (length pushed) f.lives made.0 i.whole binding now more pushed tickets log entries at refl refl made.2 e f.fires))
 
 -- memory was refused
-pub fewer_rounds : (rules : List (Simpagation ℕ)) (plans : PlanList) (names : List (List ℕ)) (log entries : List (Entry ℕ)) (st left : LabelledStore) (ts now tickets : List Ticket) (seat t k l most : ℕ) (place : List ℕ) → IsPast (book_of rules plans names log st ts) seat t k l place now → tickets ≡ now → entries ≡ log → left ≡ st → k < most → MakesFewer seat t most (book_of rules plans names log st ts) (book_of rules plans names entries left tickets)
-fewer_rounds rules plans names log entries st left ts now tickets seat t k l most place past x e s less = record {
-  passed = k;
-  fewer = less;
-  passes = subst (PassesTrials seat t k (book_of rules plans names log st ts)) (sym (book_same rules plans names e s x)) past.passes;
-}
+pub fewer_rounds : (rules : List (Simpagation ℕ)) (plans : PlanList) (names : List (List ℕ)) (log entries : List (Entry ℕ)) (st left : LabelledStore) (ts now tickets : List Ticket) (seat t most : ℕ) → MakesFewer seat t most (book_of rules plans names log st ts) (book_of rules plans names log st now) → tickets ≡ now → entries ≡ log → left ≡ st → MakesFewer seat t most (book_of rules plans names log st ts) (book_of rules plans names entries left tickets)
+fewer_rounds rules plans names log entries st left ts now tickets seat t most h x e s = subst (MakesFewer seat t most (book_of rules plans names log st ts)) (sym (book_same rules plans names e s x)) h
 
 -- what is found is of a rule, and of the search's label
 pub finds : (s : Space) (place : List ℕ) (come : Then) (i : Instance) (binding : List (Option (Value ℕ))) → IsThen s place come i binding → come ≡ thens.Whole → ((rule : Simpagation ℕ) × (rule_at s.rules i.whole.number ≡ Some rule)) × (i.whole.past.label ≡ s.active)
@@ -192,34 +194,86 @@ finds s place come i binding next is =
     let w : IsWholeNext s place i.whole binding = subst (λ c. IsThen s place c i binding) is next in
     ((w.trial.rule, ap (rule_at s.rules) w.number_is ∙ w.is.rule_is), ap (λ (z : SearchState). z.label) w.past_is)
 
+-- ---- the last of some rounds that passes over no trial is the same wherever the search stands
+
+-- a ticket whose search goes on once it has passed over trials
+going_alike : (come : Then) (k : ℕ) (place q : List ℕ) (x : Ticket) → going_on q (gone_over come k place x) ≡ going_on q x
+going_alike thens.More zero place q x = refl
+going_alike thens.More (suc k) place q x = refl
+going_alike thens.Whole k place q x = refl
+going_alike thens.Done k place q x = refl
+
+gone_alike : (lives : Bool) (q : List ℕ) (x y : Ticket) → going_on q x ≡ going_on q y → gone_on lives q x ≡ gone_on lives q y
+gone_alike true q x y e = e
+gone_alike false q x y e = refl
+
+ends_there : (seat t : ℕ) (come : Then) (w : Whole) (last : Last) (ts : List Ticket) (x : Ticket) (log : List (Entry ℕ)) (st : LabelledStore) (new : List Ticket) (entries : List (Entry ℕ)) (after : LabelledStore) → t < length ts → ((q : List ℕ) → going_on q (ticket_at ts t) ≡ going_on q x) → (come ≡ thens.More → ticket_at ts t ≡ x)
+    → EndsRounds seat t come w last ts log st new entries after → EndsRounds seat t come w last (slice_set ts t x) log st new entries after
+ends_there seat t thens.More w last ts x log st new entries after within alike same h = (h.0, h.1 ∙ sym (ap (slice_set ts t) (sym (same refl)) ∙ set-get_or ts t ended), h.2, h.3)
+ends_there seat t thens.Done w last ts x log st new entries after within alike same h = (h.0, h.1 ∙ sym (set-set ts t x ended), h.2, h.3)
+ends_there seat t thens.Whole w last ts x log st new entries after within alike same h =
+    let f = h.1 in (
+      h.0,
+      record {
+        lives = f.lives;
+        fires = record {
+          lives_is = f.fires.lives_is;
+          logged = f.fires.logged;
+          tickets = f.fires.tickets ∙ ap (slice_set ts t) (gone_alike f.lives w.past.place (ticket_at ts t) x (alike w.past.place)) ∙ sym (set_twice ts t x (gone_on f.lives w.past.place) within);
+        };
+        store = f.store;
+      },
+    )
+
 -- ---- the same by what the functions show
+
+-- the ticket where the search stands, before others
+record IsMade (ts pushed more : List Ticket) (t k : ℕ) (come : Then) (place : List ℕ) : Type 0 where
+  pub within : t < length pushed
+  pub there : ticket_at pushed t ≡ gone_over come k place (ticket_at ts t)
+  pub past : slice_set pushed t (gone_over thens.More k place (ticket_at ts t)) ≡ slice_set ts t (gone_over thens.More k place (ticket_at ts t)) ++ more
+
+is_made : (s : Space) (ts pushed : List Ticket) (t : ℕ) (come : Passed) (i : Instance) → t < length ts → (found : PassesMaking s t come i ts pushed) → IsMade ts pushed found.more t come.count come.then found.over.place
+is_made s ts pushed t come i within found =
+    let x : Ticket = gone_over thens.More come.count found.over.place (ticket_at ts t) in
+    let now : List Ticket = slice_set ts t found.x in
+    let within_now : t < length now = rw (length-set ts t found.x) within in
+    record {
+      within = rw found.tickets (rw (length-append now found.more) (omega arith));
+      there = ap (λ (xs : List Ticket). ticket_at xs t) found.tickets ∙ ticket_before now found.more t within_now ∙ ticket_same ts t found.x within ∙ found.over.after_is;
+      past = ap (λ (xs : List Ticket). slice_set xs t x) found.tickets ∙ set-append_left now found.more t x within_now ∙ ap (λ (xs : List Ticket). xs ++ found.more) (set-set ts t found.x x);
+    }
 
 pub whole_goal : (b : BookState) (pushed : List Ticket) (seat t l : ℕ) (come : Passed) (i : Instance) (w : Whole) → HoldsLive b seat t l → PassesMaking (space_of b l) t come i b.tickets pushed → w ≡ i.whole → come.then ≡ thens.Whole → (ticket_at pushed t).goal ≡ Numbered w.past.label
 whole_goal b pushed seat t l come i w h found same is =
-    let past = gone_past b seat t l come i found.binding found.x h found.over in
-    goal_stays (slice_set b.tickets t found.x) pushed t l (found.more, found.tickets) past.live.holds.goal
+    ap (λ (x : Ticket). x.goal) (is_made (space_of b l) b.tickets pushed t come i (numbered_within b.tickets t l h.holds.goal) found).there
+    ∙ ap (λ (x : Ticket). x.goal) (going_alike come.then come.count found.over.place [] (ticket_at b.tickets t)) ∙ h.holds.goal
     ∙ ap Numbered (sym (finds (space_of b l) found.over.place come.then i found.binding found.over.next is).1 ∙ ap (λ (v : Whole). v.past.label) (sym same))
 
 pub makes_rounds : (rules : List (Simpagation ℕ)) (plans : PlanList) (names : List (List ℕ)) (log entries : List (Entry ℕ)) (st left : LabelledStore) (ts pushed tickets : List Ticket) (seat t l : ℕ) (come : Passed) (i : Instance) (w : Whole) (last : Last)
     → IsKept (book_of rules plans names log st ts) → HoldsLive (book_of rules plans names log st ts) seat t l → PassesMaking (space_of (book_of rules plans names log st ts) l) t come i ts pushed → w ≡ i.whole → EndsRounds seat t come.then w last pushed log st tickets entries left
     → MakesRounds seat t (record { passed = come.count; last = last }) (book_of rules plans names log st ts) (book_of rules plans names entries left tickets)
 makes_rounds rules plans names log entries st left ts pushed tickets seat t l come i w last kept h found same ends =
-    ended_rounds rules plans names log entries st left ts (slice_set ts t found.x) found.more pushed tickets seat t come.count l found.over.place come.then i found.binding last kept
-    (gone_past (book_of rules plans names log st ts) seat t l come i found.binding found.x h found.over) found.over.next found.made found.tickets
-    (subst (λ (v : Whole). EndsRounds seat t come.then v last pushed log st tickets entries left) same ends)
-
-pub some_rounds : (rules : List (Simpagation ℕ)) (plans : PlanList) (names : List (List ℕ)) (log : List (Entry ℕ)) (st : LabelledStore) (ts new : List Ticket) (seat t l few most : ℕ) → HoldsLive (book_of rules plans names log st ts) seat t l → PassesSome (space_of (book_of rules plans names log st ts) l) t few ts new → few < most → MakesFewer seat t most (book_of rules plans names log st ts) (book_of rules plans names log st new)
-some_rounds rules plans names log st ts new seat t l few most h found less =
-    fewer_rounds rules plans names log log st st ts (slice_set ts t found.x) new seat t found.passed.count l most found.over.place (gone_past (book_of rules plans names log st ts) seat t l found.passed found.instance found.binding found.x h found.over) found.tickets refl refl
-    (let few_passed = found.few in omega arith)
+    let b : BookState = book_of rules plans names log st ts in
+    let place : List ℕ = found.over.place in
+    let y : Ticket = ticket_at ts t in
+    let x : Ticket = gone_over thens.More come.count place y in
+    let made = is_made (space_of b l) ts pushed t come i (numbered_within ts t l h.holds.goal) found in
+    ended_rounds rules plans names log entries st left ts (slice_set ts t x) found.more (slice_set pushed t x) tickets seat t come.count l place come.then i found.binding last kept
+    (is_past come.count b seat t l place (slice_set ts t x) h found.over.passes refl) found.over.next found.made made.past
+    (ends_there seat t come.then i.whole last pushed x log st tickets entries left made.within
+    (λ q. ap (going_on q) made.there ∙ going_alike come.then come.count place q y ∙ sym (going_alike thens.More come.count place q y))
+    (λ is. made.there ∙ ap (λ (c : Then). gone_over c come.count place y) is)
+    (subst (λ (v : Whole). EndsRounds seat t come.then v last pushed log st tickets entries left) same ends))
 
 -- where the tickets of the body are taken back
 pub cut_rounds : (rules : List (Simpagation ℕ)) (plans : PlanList) (names : List (List ℕ)) (log entries : List (Entry ℕ)) (st left : LabelledStore) (ts pushed same cut : List Ticket) (seat t l first most : ℕ) (come : Passed) (i : Instance)
     → HoldsLive (book_of rules plans names log st ts) seat t l → PassesMaking (space_of (book_of rules plans names log st ts) l) t come i ts pushed → come.count < most → same ≡ pushed → cut ≡ take first same → first ≡ length ts → entries ≡ log → left ≡ st
     → MakesFewer seat t most (book_of rules plans names log st ts) (book_of rules plans names entries left cut)
 cut_rounds rules plans names log entries st left ts pushed same cut seat t l first most come i h found less e back f es s =
-    fewer_rounds rules plans names log entries st left ts (slice_set ts t found.x) cut seat t come.count l most found.over.place (gone_past (book_of rules plans names log st ts) seat t l come i found.binding found.x h found.over)
-    (rest_back (slice_set ts t found.x) same cut first (found.more, e ∙ found.tickets) back (f ∙ sym (length-set ts t found.x))) es s less
+    fewer_rounds rules plans names log entries st left ts (slice_set ts t found.x) cut seat t most
+    (gone_rounds come.then come.count (book_of rules plans names log st ts) seat t l most found.over.place (slice_set ts t found.x) h found.over.passes (ap (slice_set ts t) found.over.after_is) less)
+    (rest_back (slice_set ts t found.x) same cut first (found.more, e ∙ found.tickets) back (f ∙ sym (length-set ts t found.x))) es s
 
 -- ---- what a book keeps
 
@@ -350,35 +404,51 @@ claimed_live b seat t a h = record {
   live = (a, entered_there b.store b.next a (λ x at. absurd (let less : b.next < b.next = store_below (goal_state b) (Lawful-once Two (Instances b.rules) (events b) (goal_state b) h.kept.lawful) b.next x at in omega arith)));
 }
 
--- its search has passed over trials
-fresh : (seat l k : ℕ) (s : Space) (place : List ℕ) → Passes s k beginning place → going_on place (activated_by seat l) ≡ gone_over k place (activated_by seat l)
-fresh seat l zero s place p = ap (λ (q : List ℕ). going_on q (activated_by seat l)) p
-fresh seat l (suc k) s place p = refl
+-- its search stands where it does once trials were passed over
+fresh : (seat l : ℕ) (come : Then) (k : ℕ) (s : Space) (place here : List ℕ) → Passes s k beginning place → here ≡ left_at come beginning place → going_on here (activated_by seat l) ≡ gone_over come k place (activated_by seat l)
+fresh seat l thens.More zero s place here p e = ap (λ (q : List ℕ). going_on q (activated_by seat l)) (e ∙ p)
+fresh seat l thens.More (suc k) s place here p e = ap (λ (q : List ℕ). going_on q (activated_by seat l)) e
+fresh seat l thens.Whole k s place here p e = ap (λ (q : List ℕ). going_on q (activated_by seat l)) e
+fresh seat l thens.Done k s place here p e = ap (λ (q : List ℕ). going_on q (activated_by seat l)) e
 
-claimed_past : (b : BookState) (seat t k : ℕ) (a : Atom ℕ) (place : List ℕ) (now : List Ticket) → IsReady b t a → Passes (space_of (activated b seat t a) b.next) k beginning place → now ≡ slice_set b.tickets t (going_on place (activated_by seat b.next)) → IsPast (activated b seat t a) seat t k b.next place now
-claimed_past b seat t k a place now h p e =
+claimed_gone : (b : BookState) (seat t : ℕ) (come : Then) (k : ℕ) (a : Atom ℕ) (place here : List ℕ) (now : List Ticket) → IsReady b t a → Passes (space_of (activated b seat t a) b.next) k beginning place → here ≡ left_at come beginning place → now ≡ slice_set b.tickets t (going_on here (activated_by seat b.next))
+    → now ≡ slice_set (activated b seat t a).tickets t (gone_over come k place (ticket_at (activated b seat t a).tickets t))
+claimed_gone b seat t come k a place here now h p stands e =
     let n : BookState = activated b seat t a in
     let y : Ticket = activated_by seat b.next in
-    let there : ticket_at n.tickets t ≡ y = claimed_ticket b seat t a h in
-    is_past k n seat t b.next place now (claimed_live b seat t a h) (subst (λ (x : Ticket). Passes (space_of n b.next) k x.position place) (sym there) p)
-    (e ∙ sym (set-set b.tickets t y (going_on place y)) ∙ ap (slice_set n.tickets t) (fresh seat b.next k (space_of n b.next) place p ∙ ap (gone_over k place) (sym there)))
+    e ∙ sym (set-set b.tickets t y (going_on here y)) ∙ ap (slice_set n.tickets t) (fresh seat b.next come k (space_of n b.next) place here p stands ∙ ap (gone_over come k place) (sym (claimed_ticket b seat t a h)))
+
+-- its search is at the beginning before
+claimed_passes : (b : BookState) (seat t k : ℕ) (a : Atom ℕ) (place : List ℕ) → IsReady b t a → Passes (space_of (activated b seat t a) b.next) k beginning place → Passes (space_of (activated b seat t a) b.next) k (ticket_at (activated b seat t a).tickets t).position place
+claimed_passes b seat t k a place h p = subst (λ (x : Ticket). Passes (space_of (activated b seat t a) b.next) k x.position place) (sym (claimed_ticket b seat t a h)) p
+
+-- it has passed over trials
+claimed_past : (b : BookState) (seat t k : ℕ) (a : Atom ℕ) (place : List ℕ) → IsReady b t a → Passes (space_of (activated b seat t a) b.next) k beginning place → IsPast (activated b seat t a) seat t k b.next place (slice_set b.tickets t (going_on place (activated_by seat b.next)))
+claimed_past b seat t k a place h p =
+    is_past k (activated b seat t a) seat t b.next place (slice_set b.tickets t (going_on place (activated_by seat b.next))) (claimed_live b seat t a h) (claimed_passes b seat t k a place h p) (claimed_gone b seat t thens.More k a place place (slice_set b.tickets t (going_on place (activated_by seat b.next))) h p refl refl)
 
 -- ---- the rounds
 
 -- they end where the goal has entered
-enters_rounds : (rules : List (Simpagation ℕ)) (plans : PlanList) (names : List (List ℕ)) (log es entries : List (Entry ℕ)) (st store after : LabelledStore) (ts lent_ts more pushed now new : List Ticket) (seat t k : ℕ) (a : Atom ℕ) (place : List ℕ) (come : Then) (i : Instance) (binding : List (Option (Value ℕ))) (last : Last) → IsReady (book_of rules plans names log st ts) t a
-    → IsLent ts lent_ts t a → Passes (space_of (activated (book_of rules plans names log st ts) seat t a) st.next) k beginning place → IsThen (space_of (activated (book_of rules plans names log st ts) seat t a) st.next) place come i binding → MakesFound rules come i.whole binding more → pushed ≡ lent_ts ++ more
-    → EntersGoal seat t place a pushed log st now es store → EndsRounds seat t come i.whole last now es store new entries after
+enters_rounds : (rules : List (Simpagation ℕ)) (plans : PlanList) (names : List (List ℕ)) (log es entries : List (Entry ℕ)) (st store after : LabelledStore) (ts lent_ts more pushed now new : List Ticket) (seat t k : ℕ) (a : Atom ℕ) (place here : List ℕ) (come : Then) (i : Instance) (binding : List (Option (Value ℕ))) (last : Last) → IsReady (book_of rules plans names log st ts) t a
+    → IsLent ts lent_ts t a → Passes (space_of (activated (book_of rules plans names log st ts) seat t a) st.next) k beginning place → IsThen (space_of (activated (book_of rules plans names log st ts) seat t a) st.next) place come i binding → here ≡ left_at come beginning place → MakesFound rules come i.whole binding more → pushed ≡ lent_ts ++ more
+    → EntersGoal seat t here a pushed log st now es store → EndsRounds seat t come i.whole last now es store new entries after
     → MakesRounds seat t (record { passed = k; last = last }) (activated (book_of rules plans names log st ts) seat t a) (book_of rules plans names entries after new)
-enters_rounds rules plans names log es entries st store after ts lent_ts more pushed now new seat t k a place come i binding last h out p next made e g ends =
+enters_rounds rules plans names log es entries st store after ts lent_ts more pushed now new seat t k a place here come i binding last h out p next stands made e g ends =
     let b : BookState = book_of rules plans names log st ts in
-    let gone : List Ticket = slice_set ts t (going_on place (activated_by seat st.next)) in
+    let y : Ticket = activated_by seat st.next in
+    let gone : List Ticket = slice_set ts t (going_on place y) in
     let claim_log : List (Entry ℕ) = log ++ record { event = Activate t st.next; seat = seat } ∷ [] in
     let claim_store : LabelledStore = record { entries = st.entries ++ (st.next, a) ∷ []; next = st.next + 1; limit = st.limit } in
-    ended_rounds rules plans names claim_log entries claim_store after (slice_set ts t (activated_by seat st.next)) gone more now new seat t k st.next place come i binding last (claimed_kept b seat t a h) (claimed_past b seat t k a place gone h p refl) next made
-    (g.tickets ∙ lent_set_before more pushed (going_on place (activated_by seat st.next)) out e)
+    let within : t < length pushed = (waiting_is pushed t (waits_before more pushed out e)).within in
+    let there : ticket_at now t ≡ going_on here y = ap (λ (xs : List Ticket). ticket_at xs t) g.tickets ∙ ticket_same pushed t (going_on here y) within in
+    ended_rounds rules plans names claim_log entries claim_store after (slice_set ts t y) gone more (slice_set now t (going_on place y)) new seat t k st.next place come i binding last (claimed_kept b seat t a h) (claimed_past b seat t k a place h p) next made
+    (ap (λ (xs : List Ticket). slice_set xs t (going_on place y)) g.tickets ∙ set-set pushed t (going_on here y) (going_on place y) ∙ lent_set_before more pushed (going_on place y) out e)
+    (ends_there seat t come i.whole last now (going_on place y) claim_log claim_store new entries after (rw g.tickets (rw (length-set pushed t (going_on here y)) within))
+    (λ q. ap (going_on q) there)
+    (λ is. there ∙ ap (λ (q : List ℕ). going_on q y) (stands ∙ ap (λ (c : Then). left_at c beginning place) is))
     (subst (λ (z : LabelledStore). EndsRounds seat t come i.whole last now claim_log z new entries after) g.store
-    (subst (λ (z : List (Entry ℕ)). EndsRounds seat t come i.whole last now z store new entries after) g.logged ends))
+    (subst (λ (z : List (Entry ℕ)). EndsRounds seat t come i.whole last now z store new entries after) g.logged ends)))
 
 -- what is removed needn't have entered
 dropped_entered : (l n : ℕ) (a : Atom ℕ) (st : Store) → drop_label l (st ++ (n, a) ∷ []) ≡ (if l == n then drop_label l st else drop_label l st ++ (n, a) ∷ [])
@@ -418,29 +488,29 @@ fires_rounds rules plans names log entries st after ts lent_ts more pushed new s
     let now : List Ticket = slice_set ts t (going_on place (activated_by seat st.next)) in
     subst (λ (z : LabelledStore). MakesRounds seat t (record { passed = k; last = lasts.Fired }) claim (book_of rules plans names entries z new))
     (ap (λ (z : Store). record { entries = z; next = st.next + 1; limit = st.limit }) (without_entered i.whole.removed.items st.entries st.next a (ap (among i.whole.removed.items) (sym label) ∙ own)) ∙ sym f.store)
-    (fired_rounds claim seat t k st.next place made.0 i.whole binding (record { first = length ts; count = length more; active_lives = false }) now new entries (claimed_kept b seat t a h) (claimed_past b seat t k a place now h p refl) next made.1
+    (fired_rounds claim seat t k st.next place made.0 i.whole binding (record { first = length ts; count = length more; active_lives = false }) now new entries (claimed_kept b seat t a h) (claimed_past b seat t k a place h p) next made.1
     (fires_gone_on seat t st.next made.0 i binding place a ts lent_ts more pushed log st new entries after label own out made.2 e f))
 
 -- the rounds, however they end
-start_makes : (rules : List (Simpagation ℕ)) (plans : PlanList) (names : List (List ℕ)) (log entries : List (Entry ℕ)) (st after : LabelledStore) (ts lent_ts more pushed new : List Ticket) (seat t k : ℕ) (a : Atom ℕ) (place : List ℕ) (come : Then) (i : Instance) (binding : List (Option (Value ℕ))) (last : Last) → IsReady (book_of rules plans names log st ts) t a
-    → IsLent ts lent_ts t a → Passes (older rules plans (st.entries ++ (st.next, a) ∷ []) st.next) k beginning place → IsThen (older rules plans (st.entries ++ (st.next, a) ∷ []) st.next) place come i binding → MakesFound rules come i.whole binding more → pushed ≡ lent_ts ++ more → EndsStart seat t place a come i.whole last pushed log st new entries after
-    → MakesRounds seat t (record { passed = k; last = last }) (activated (book_of rules plans names log st ts) seat t a) (book_of rules plans names entries after new)
-start_makes rules plans names log entries st after ts lent_ts more pushed new seat t k a place come i binding last h out p next made e (fires is own fired f) =
-    makes_same fired refl (fires_rounds rules plans names log entries st after ts lent_ts more pushed new seat t k a place i binding h out p (subst (λ c. IsThen (older rules plans (st.entries ++ (st.next, a) ∷ []) st.next) place c i binding) is next) (subst (λ c. MakesFound rules c i.whole binding more) is made) e own f)
-start_makes rules plans names log entries st after ts lent_ts more pushed new seat t k a place come i binding last h out p next made e (enters now es store g ends) =
-    enters_rounds rules plans names log es entries st store after ts lent_ts more pushed now new seat t k a place come i binding last h out p next made e g ends
+start_makes : (rules : List (Simpagation ℕ)) (plans : PlanList) (names : List (List ℕ)) (log entries : List (Entry ℕ)) (st after : LabelledStore) (ts lent_ts more pushed new : List Ticket) (seat t : ℕ) (a : Atom ℕ) (here : List ℕ) (come : Passed) (i : Instance) (binding : List (Option (Value ℕ))) (last : Last) → IsReady (book_of rules plans names log st ts) t a
+    → IsLent ts lent_ts t a → PassesTo (older rules plans (st.entries ++ (st.next, a) ∷ []) st.next) come i binding beginning here → MakesFound rules come.then i.whole binding more → pushed ≡ lent_ts ++ more → EndsStart seat t here a come.then i.whole last pushed log st new entries after
+    → MakesRounds seat t (record { passed = come.count; last = last }) (activated (book_of rules plans names log st ts) seat t a) (book_of rules plans names entries after new)
+start_makes rules plans names log entries st after ts lent_ts more pushed new seat t a here come i binding last h out over made e (fires is own fired f) =
+    makes_same fired refl (fires_rounds rules plans names log entries st after ts lent_ts more pushed new seat t come.count a over.after i binding h out over.passes (subst (λ c. IsThen (older rules plans (st.entries ++ (st.next, a) ∷ []) st.next) over.after c i binding) is over.next) (subst (λ c. MakesFound rules c i.whole binding more) is made) e own f)
+start_makes rules plans names log entries st after ts lent_ts more pushed new seat t a here come i binding last h out over made e (enters now es store g ends) =
+    enters_rounds rules plans names log es entries st store after ts lent_ts more pushed now new seat t come.count a over.after here come.then i binding last h out over.passes over.next over.stands made e g ends
 
 -- the claim and the rounds
-pub started : (rules : List (Simpagation ℕ)) (plans : PlanList) (names : List (List ℕ)) (log entries : List (Entry ℕ)) (st after : LabelledStore) (ts lent_ts pushed new : List Ticket) (seat t : ℕ) (a : Atom ℕ) (search : SearchState) (place : List ℕ) (come : Passed) (i : Instance) (w : Whole) (last : Last) → IsReady (book_of rules plans names log st ts) t a → IsLent ts lent_ts t a
-    → search ≡ record { label = st.next; place = beginning } → PassesBefore (older rules plans (st.entries ++ (st.next, a) ∷ []) search.label) come i search.place place lent_ts pushed → w ≡ i.whole → EndsStart seat t place a come.then w last pushed log st new entries after
+pub started : (rules : List (Simpagation ℕ)) (plans : PlanList) (names : List (List ℕ)) (log entries : List (Entry ℕ)) (st after : LabelledStore) (ts lent_ts pushed new : List Ticket) (seat t : ℕ) (a : Atom ℕ) (search : SearchState) (here : List ℕ) (come : Passed) (i : Instance) (w : Whole) (last : Last) → IsReady (book_of rules plans names log st ts) t a → IsLent ts lent_ts t a
+    → search ≡ record { label = st.next; place = beginning } → PassesBefore (older rules plans (st.entries ++ (st.next, a) ∷ []) search.label) come i search.place here lent_ts pushed → w ≡ i.whole → EndsStart seat t here a come.then w last pushed log st new entries after
     → StartsRounds seat t (record { passed = come.count; last = last }) (book_of rules plans names log st ts) (book_of rules plans names entries after new)
-started rules plans names log entries st after ts lent_ts pushed new seat t a search place come i w last h out begun found same ends =
-    let p = subst (λ (z : SearchState). PassesBefore (older rules plans (st.entries ++ (st.next, a) ∷ []) z.label) come i z.place place lent_ts pushed) begun found in record {
+started rules plans names log entries st after ts lent_ts pushed new seat t a search here come i w last h out begun found same ends =
+    let p = subst (λ (z : SearchState). PassesBefore (older rules plans (st.entries ++ (st.next, a) ∷ []) z.label) come i z.place here lent_ts pushed) begun found in record {
       label = st.next;
       claimed = activated (book_of rules plans names log st ts) seat t a;
       claims = claimed (book_of rules plans names log st ts) seat t a h;
-      makes = start_makes rules plans names log entries st after ts lent_ts p.more pushed new seat t come.count a place come.then i p.binding last h out p.passes p.next p.made p.tickets
-          (subst (λ (v : Whole). EndsStart seat t place a come.then v last pushed log st new entries after) same ends);
+      makes = start_makes rules plans names log entries st after ts lent_ts p.more pushed new seat t a here come i p.binding last h out p.over p.made p.tickets
+          (subst (λ (v : Whole). EndsStart seat t here a come.then v last pushed log st new entries after) same ends);
     }
 
 -- a ticket that is activated doesn't wait
@@ -450,29 +520,26 @@ held_not_waiting ts t seat l place waits is =
     cc
 
 -- memory was refused: the tickets of the body are taken back, and the atom is put back where its ticket waits
-pub started_fewer : (rules : List (Simpagation ℕ)) (plans : PlanList) (names : List (List ℕ)) (log entries : List (Entry ℕ)) (st after : LabelledStore) (ts lent_ts pushed left cut new : List Ticket) (seat t most first : ℕ) (a : Atom ℕ) (search : SearchState) (place : List ℕ) (come : Passed) (i : Instance) → IsReady (book_of rules plans names log st ts) t a → IsLent ts lent_ts t a
-    → search ≡ record { label = st.next; place = beginning } → PassesBefore (older rules plans (st.entries ++ (st.next, a) ∷ []) search.label) come i search.place place lent_ts pushed → come.count < most → EntersOrStays seat t place a pushed log st left entries after → cut ≡ take first left → first ≡ length lent_ts
+pub started_fewer : (rules : List (Simpagation ℕ)) (plans : PlanList) (names : List (List ℕ)) (log entries : List (Entry ℕ)) (st after : LabelledStore) (ts lent_ts pushed left cut new : List Ticket) (seat t most first : ℕ) (a : Atom ℕ) (search : SearchState) (here : List ℕ) (come : Passed) (i : Instance) → IsReady (book_of rules plans names log st ts) t a → IsLent ts lent_ts t a
+    → search ≡ record { label = st.next; place = beginning } → PassesBefore (older rules plans (st.entries ++ (st.next, a) ∷ []) search.label) come i search.place here lent_ts pushed → come.count < most → EntersOrStays seat t here a pushed log st left entries after → cut ≡ take first left → first ≡ length lent_ts
     → (state_of cut t ≡ Waiting → new ≡ slice_set cut t (with_atom a (ticket_at cut t))) → (state_of cut t ≢ Waiting → new ≡ cut)
     → StartsFewer seat t most (book_of rules plans names log st ts) (book_of rules plans names entries after new)
-started_fewer rules plans names log entries st after ts lent_ts pushed left cut new seat t most first a search place come i h out begun found less (inl same) back f put kept =
-    let here : cut ≡ lent_ts = rest_back lent_ts left cut first (found.more, same.0 ∙ found.tickets) back f in
-    inl (book_same rules plans names same.1 same.2 (put (ap (λ (xs : List Ticket). state_of xs t) here ∙ waits_lent out) ∙ ap (λ (xs : List Ticket). slice_set xs t (with_atom a (ticket_at xs t))) here ∙ put_back out))
-started_fewer rules plans names log entries st after ts lent_ts pushed left cut new seat t most first a search place come i h out begun found less (inr g) back f put kept =
+started_fewer rules plans names log entries st after ts lent_ts pushed left cut new seat t most first a search here come i h out begun found less (inl same) back f put kept =
+    let now : cut ≡ lent_ts = rest_back lent_ts left cut first (found.more, same.0 ∙ found.tickets) back f in
+    inl (book_same rules plans names same.1 same.2 (put (ap (λ (xs : List Ticket). state_of xs t) now ∙ waits_lent out) ∙ ap (λ (xs : List Ticket). slice_set xs t (with_atom a (ticket_at xs t))) now ∙ put_back out))
+started_fewer rules plans names log entries st after ts lent_ts pushed left cut new seat t most first a search here come i h out begun found less (inr g) back f put kept =
     let b : BookState = book_of rules plans names log st ts in
-    let claim : BookState = activated (book_of rules plans names log st ts) seat t a in
-    let passes : Passes (older rules plans (st.entries ++ (st.next, a) ∷ []) st.next) come.count beginning place = (subst (λ (z : SearchState). PassesBefore (older rules plans (st.entries ++ (st.next, a) ∷ []) z.label) come i z.place place lent_ts pushed) begun found).passes in
-    let gone : List Ticket = slice_set ts t (going_on place (activated_by seat st.next)) in
-    let as_long : first ≡ length gone = f ∙ ap length out.lent_is ∙ length-set ts t (with_atom out.other (ticket_at ts t)) ∙ sym (length-set ts t (going_on place (activated_by seat st.next))) in
-    let now : cut ≡ gone = rest_back gone left cut first (found.more, g.tickets ∙ lent_set_before found.more pushed (going_on place (activated_by seat st.next)) out found.tickets) back as_long in
+    let claim : BookState = activated b seat t a in
+    let over = (subst (λ (z : SearchState). PassesBefore (older rules plans (st.entries ++ (st.next, a) ∷ []) z.label) come i z.place here lent_ts pushed) begun found).over in
+    let gone : List Ticket = slice_set ts t (going_on here (activated_by seat st.next)) in
+    let as_long : first ≡ length gone = f ∙ ap length out.lent_is ∙ length-set ts t (with_atom out.other (ticket_at ts t)) ∙ sym (length-set ts t (going_on here (activated_by seat st.next))) in
+    let now : cut ≡ gone = rest_back gone left cut first (found.more, g.tickets ∙ lent_set_before found.more pushed (going_on here (activated_by seat st.next)) out found.tickets) back as_long in
     inr (record {
       label = st.next;
       claimed = claim;
       claims = claimed b seat t a h;
-      makes = record {
-        passed = come.count;
-        fewer = less;
-        passes = subst (PassesTrials seat t come.count claim) (sym (book_same rules plans names g.logged g.store (kept (λ is. held_not_waiting ts t seat st.next place out.waits (ap (λ (xs : List Ticket). state_of xs t) (sym now) ∙ is)) ∙ now))) (claimed_past b seat t come.count a place gone h passes refl).passes;
-      };
+      makes = subst (MakesFewer seat t most claim) (sym (book_same rules plans names g.logged g.store (kept (λ is. held_not_waiting ts t seat st.next here out.waits (ap (λ (xs : List Ticket). state_of xs t) (sym now) ∙ is)) ∙ now)))
+          (gone_rounds come.then come.count claim seat t st.next most over.after gone (claimed_live b seat t a h) (claimed_passes b seat t come.count a over.after h over.passes) (claimed_gone b seat t come.then come.count a over.after here gone h over.passes over.stands refl) less);
     })
 
 -- the body was refused

@@ -1,8 +1,8 @@
 -- Trials that are passed over.
-use Rattle.std.specs.Prelude.{◌≡◌, ℕ, zero, suc, ◌+◌, ◌<◌, ◌≤◌, ◌⊎◌, List, ◌++◌, Option, Ok, slice_set}
+use Rattle.std.specs.Prelude.{◌≡◌, ℕ, zero, suc, ◌+◌, ◌<◌, ◌⊎◌, List, ◌++◌, Option, Ok, slice_set}
 use Rattle.chr_value.specs.Atoms.{Value}
 use Rattle.chr_search.specs.Trials.{Space}
-use Rattle.chr_search.specs.Passing.{Passes, IsThen}
+use Rattle.chr_search.specs.Passing.{PassesTo}
 use Rattle.chr_search.specs.Judged.{Judgement, IsVerdict}
 use Rattle.chr_search.specs.declared.search.Instance.{Instance}
 use Rattle.chr_search.specs.declared.search.Passed.{Passed}
@@ -108,23 +108,12 @@ pub record PassesMaking (s : Space) (t : ℕ) (passed : Passed) (i : Instance) (
   pub made : MakesFound s.rules passed.then i.whole binding more
   pub tickets : new ≡ slice_set old t x ++ more
 
--- its search alone passes over some, at most so many
-pub record PassesSome (s : Space) (t most : ℕ) (old new : List Ticket) : Type 0 where
-  pub passed : Passed
-  pub few : passed.count ≤ most
-  pub instance : Instance
-  pub binding : List (Option (Value ℕ))
-  pub x : Ticket
-  pub over : PassesOver s passed instance binding (ticket_at old t) x
-  pub tickets : new ≡ slice_set old t x
-
--- a search passes over trials from a place to another, and the tickets of the body of what is found
--- then come after the others
-pub record PassesBefore (s : Space) (passed : Passed) (i : Instance) (place after : List ℕ)
+-- a search passes over trials from a place on, and the tickets of the body of what is found then
+-- come after the others; the search stands here then
+pub record PassesBefore (s : Space) (passed : Passed) (i : Instance) (place here : List ℕ)
     (old new : List Ticket) : Type 0 where
-  pub passes : Passes s passed.count place after
   pub binding : List (Option (Value ℕ))
-  pub next : IsThen s after passed.then i binding
+  pub over : PassesTo s passed i binding place here
   pub more : List Ticket
   pub made : MakesFound s.rules passed.then i.whole binding more
   pub tickets : new ≡ old ++ more

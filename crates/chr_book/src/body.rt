@@ -48,7 +48,7 @@ pub fn push_body<A: Allocator + Copy>(
 }
 
 /// Gives the body's atoms of a trial that a search has found, where it has, the next tickets, in written order. An `Err` is
-/// E01, and nothing has changed.
+/// E01: one was found, and nothing has changed.
 pub fn push_found<A: Allocator + Copy>(
     tickets: &mut Tickets<A>,
     program: &Program<A>,
@@ -59,6 +59,7 @@ pub fn push_found<A: Allocator + Copy>(
     requires { then ≡ thens.Whole → (rule : Simpagation ℕ) × (rule_at program.now whole.now.number ≡ Some rule) }
     ensures ok { OnOk result ((more : List Ticket) × MakesFound program.now then whole.now binding.now more × (tickets.new ≡ tickets.old ++ more)) }
     ensures err { OnErr result (tickets.new ≡ tickets.old) }
+    ensures found { OnErr result (then ≡ thens.Whole) }
 {
     if then != Then::Whole {
         return Ok(());

@@ -6,7 +6,7 @@ ghost use Rattle.chr_store.specs.Labels.{entered};
 ghost use Rattle.chr_search.specs.Trials.{older};
 ghost use Rattle.chr_search.specs.declared.search.Then.TheVariants as thens;
 ghost use Rattle.chr_calls.specs.Tickets.{ticket_at, IsActive};
-ghost use Rattle.chr_book.specs.Passed.{PassesMaking, PassesSome, PassesBefore};
+ghost use Rattle.chr_book.specs.Passed.{PassesMaking, PassesBefore};
 
 use crate::body::push_found;
 use chr_guard::Binding;
@@ -19,7 +19,8 @@ use chr_value::Atom;
 use std::alloc::{AllocError, Allocator};
 
 /// Lets the search of a ticket's active goal pass over trials, at most so many, and gives the body's atoms of the trial that
-/// is then found whole, if any, the next tickets. An `Err` is E01: then these are taken back.
+/// is then found whole, if any, the next tickets. An `Err` is E01, and nothing has changed: memory is refused only once a
+/// whole trial is found, and then the ticket is as it was.
 pub fn pass_over<A: Allocator + Copy>(
     tickets: &mut Tickets<A>,
     ticket: u64,
@@ -34,7 +35,7 @@ pub fn pass_over<A: Allocator + Copy>(
     ensures few { IfOk result (λ come. come.count ≤ most) }
     ensures more { IfOk result (λ come. come.then ≡ thens.More → come.count ≡ most) }
     ensures ok { IfOk result (λ come. (l : ℕ) → (ticket_at tickets.old ticket).goal ≡ Numbered l → PassesMaking (older program.now plans.now store.now.entries l) ticket come instance.new tickets.old tickets.new) }
-    ensures err { OnErr result ((l : ℕ) → (ticket_at tickets.old ticket).goal ≡ Numbered l → PassesSome (older program.now plans.now store.now.entries l) ticket most tickets.old tickets.new) }
+    ensures err { OnErr result (tickets.new ≡ tickets.old) }
 {
     let mut bound = Binding::free(0);
     let come = tickets.pass_over(ticket, program, plans, store, most, instance, &mut bound);

@@ -1,9 +1,12 @@
-use Rattle.std.proofs.Common.{◌≡◌, ◌++◌, ℕ, List, Some, sym, ap, ◌∙◌, subst, arith}
+use Rattle.std.proofs.Common.{◌≡◌, ◌++◌, ℕ, List, Some, slice_set, sym, ap, ◌∙◌, subst, arith}
+use Rattle.std.proofs.lemmas.List.{set-get_or}
 use Rattle.std.proofs.lemmas.Result.{err_from_is_err_and}
 use Rattle.chr_rule.specs.Rules.{Simpagation, rule_at}
 use Rattle.chr_search.specs.Trials.{older}
+use Rattle.chr_search.specs.declared.search.Then.{Then}
 use Rattle.chr_search.specs.declared.search.Whole.{Whole}
-use Rattle.chr_calls.specs.Tickets.{Ticket, ticket_at}
+use Rattle.chr_calls.specs.Tickets.{Ticket, ended, ticket_at}
+use Rattle.chr_tickets.specs.Passed.{gone_over}
 use Rattle.chr_book.specs.Firings.{MakesFound}
 use Rattle.chr_book.proofs.GoingOn.{finds}
 use Rattle.chr_book.proofs.passing.pass_over.Goals as goal
@@ -30,12 +33,8 @@ returns-clause-ok g c =
     }
 
 pub returns-in_err-push_found-clause-err : goal.returns-in_err-push_found-clause-err
-returns-in_err-push_found-clause-err g c = rw (err_from_is_err_and c.from_residual.result c.from_residual.ensures.1).1 (λ l is. record {
-  passed = c.pass_over-come.result;
-  few = c.pass_over-come.ensures.few;
-  instance = c.pass_over-come.new.instance;
-  binding = c.pass_over-come.new.bound;
-  x = ticket_at c.pass_over-come.new.self c.args.ticket;
-  over = c.pass_over-come.ensures.passed l is;
-  tickets = c.in_err-push_found.ensures.err ∙ c.pass_over-come.ensures.others;
-})
+returns-in_err-push_found-clause-err g c =
+    let l = c.requires.active.0 in
+    let over = c.pass_over-come.ensures.passed l c.requires.active.1 in
+    rw (err_from_is_err_and c.from_residual.result c.from_residual.ensures.1).1
+    (c.in_err-push_found.ensures.err ∙ c.pass_over-come.ensures.others ∙ ap (slice_set c.args.tickets.now c.args.ticket) (over.after_is ∙ ap (λ (z : Then). gone_over z c.pass_over-come.result.count over.place (ticket_at c.args.tickets.now c.args.ticket)) c.in_err-push_found.ensures.found) ∙ set-get_or c.args.tickets.now c.args.ticket ended)

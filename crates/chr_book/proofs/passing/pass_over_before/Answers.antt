@@ -10,17 +10,18 @@ use Rattle.chr_book.proofs.passing.pass_over_before.Goals as goal
 pub push_found-requires : goal.push_found-requires
 push_found-requires g c = (
   omega arith,
-  λ is. subst (λ (w : Whole). (rule : Simpagation ℕ) × (rule_at c.args.program.now w.number ≡ Some rule)) (sym c.whole.ensures)
-      (finds (older c.args.program.now c.args.plans.now (entered c.args.store.now c.args.atom.now).entries c.args.search.now.label) c.pass_over_before-come.new.self.place c.pass_over_before-come.result.then c.pass_over_before-come.new.instance c.pass_over_before-come.new.bound c.pass_over_before-come.ensures.then is).0,
+  λ is.
+      let over = c.pass_over_before-come.ensures.passed in
+      subst (λ (w : Whole). (rule : Simpagation ℕ) × (rule_at c.args.program.now w.number ≡ Some rule)) (sym c.whole.ensures)
+      (finds (older c.args.program.now c.args.plans.now (entered c.args.store.now c.args.atom.now).entries c.args.search.now.label) over.after c.pass_over_before-come.result.then c.pass_over_before-come.new.instance c.pass_over_before-come.new.bound over.next is).0,
 )
 
 pub returns-clause-ok : goal.returns-clause-ok
 returns-clause-ok g c =
     let body = c.in_ok-push_found.ensures.ok in
     record {
-      passes = c.pass_over_before-come.ensures.passed;
       binding = c.pass_over_before-come.new.bound;
-      next = c.pass_over_before-come.ensures.then;
+      over = c.pass_over_before-come.ensures.passed;
       more = body.0;
       made = subst (λ (w : Whole). MakesFound c.args.program.now c.pass_over_before-come.result.then w c.pass_over_before-come.new.bound body.0) c.whole.ensures body.1;
       tickets = body.2;

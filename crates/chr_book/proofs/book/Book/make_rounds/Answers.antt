@@ -1,16 +1,15 @@
 use Rattle.std.proofs.Common.{◌≡◌, ◌-◌, sym, ap, ◌∙◌, subst, arith}
 use Rattle.std.specs.Arc.{arc_value}
-use Rattle.std.proofs.lemmas.Result.{err_from_is_err_and}
 use Rattle.chr_store.specs.Labels.{LabelledStore}
 use Rattle.chr_calls.specs.Headline.{IsKept}
 use Rattle.chr_calls.specs.Books.{BookState}
 use Rattle.chr_calls.specs.Calls.{HoldsLive}
 use Rattle.chr_book.specs.Books.{book_of}
 use Rattle.chr_book.specs.Passed.{MakesRounds, MakesFewer}
-use Rattle.chr_book.proofs.GoingOn.{whole_goal, makes_rounds, some_rounds, cut_rounds, rounds_keep, fewer_keep, ends_show}
+use Rattle.chr_book.proofs.GoingOn.{whole_goal, makes_rounds, cut_rounds, rounds_keep, fewer_keep, ends_show}
 use Rattle.chr_book.proofs.book.Book.make_rounds.Given.{Over}
 use Rattle.chr_book.proofs.book.Book.make_rounds.Goals as goal
-use Rattle.chr_book.proofs.book.Book.make_rounds.Goals.{After-from_residual, After-pass_over, After-truncate, In-Ok}
+use Rattle.chr_book.proofs.book.Book.make_rounds.Goals.{After-pass_over, After-truncate, In-Ok}
 
 -- ---- what has been made
 
@@ -19,13 +18,6 @@ live : (g : Over) (c : After-pass_over g) → (let x = c.self.inside in HoldsLiv
 live g c =
     let x = c.self.inside in
     subst (λ (b : BookState). HoldsLive b c.args.seat c.args.ticket c.requires.held.0) (sym (ap (λ rules. book_of rules x.plans x.names x.log x.store x.tickets) c.deref.ensures ∙ c.self.view_is)) c.requires.held.1
-
-none : (g : Over) (c : After-from_residual g) → (let x = c.self.inside in HoldsLive (book_of c.deref.result.now x.plans x.names x.log x.store x.tickets) c.args.seat c.args.ticket c.requires.held.0) → MakesFewer c.args.seat c.args.ticket c.args.most (book_of (arc_value c.self.inside.program) c.self.inside.plans c.self.inside.names c.self.inside.log c.self.inside.store c.self.inside.tickets) (book_of (arc_value c.self.inside.program) c.self.inside.plans c.self.inside.names c.self.inside.log c.self.inside.store c.pass_over.new.tickets)
-none g c live =
-    let x = c.self.inside in
-    let l = c.requires.held.0 in
-    subst (λ rules. MakesFewer c.args.seat c.args.ticket c.args.most (book_of rules x.plans x.names x.log x.store x.tickets) (book_of rules x.plans x.names x.log x.store c.pass_over.new.tickets)) c.deref.ensures
-    (some_rounds c.deref.result.now x.plans x.names x.log x.store x.tickets c.pass_over.new.tickets c.args.seat c.args.ticket l (c.args.most - 1) c.args.most live (c.in_err-come.ensures.err l live.holds.goal) (omega (arith, c.requires.some)))
 
 made : (g : Over) (c : In-Ok g) → (let x = c.self.inside in HoldsLive (book_of c.deref.result.now x.plans x.names x.log x.store x.tickets) c.args.seat c.args.ticket c.requires.held.0) → MakesRounds c.args.seat c.args.ticket (record { passed = c.in_ok-come.come.count; last = c.in-Ok.last }) (book_of (arc_value c.self.inside.program) c.self.inside.plans c.self.inside.names c.self.inside.log c.self.inside.store c.self.inside.tickets) (book_of (arc_value c.self.inside.program) c.self.inside.plans c.self.inside.names c.end_rounds.new.log c.end_rounds.new.store c.end_rounds.new.tickets)
 made g c live =
@@ -44,14 +36,6 @@ cut g c live =
     live (c.in_ok-come.ensures.ok l live.holds.goal) (omega (arith, c.in_ok-come.ensures.few, c.requires.some)) c.in_default.ensures.tickets c.truncate.ensures c.next-first.ensures.value c.in_default.ensures.log c.in_default.ensures.store)
 
 -- ---- the goals
-
-pub invariant_of-self : goal.invariant_of-self
-invariant_of-self g c = (fewer_keep _ _ _ _ _ (none g c (live g (goal.at.invariant_of-self g c).After-pass_over)) c.self.invariant.0, c.self.invariant.1)
-
-pub returns-in_err-come : goal.returns-in_err-come
-returns-in_err-come g c =
-    let fewer = none g c (live g (goal.at.returns-in_err-come g c).After-pass_over) in
-    rw (err_from_is_err_and c.from_residual.result c.from_residual.ensures.1).1 (record { few = tt; all = tt; ok = tt; err = rw c.self.view_is at fewer })
 
 pub end_rounds-requires : goal.end_rounds-requires
 end_rounds-requires g c =

@@ -89,5 +89,5 @@ end_start-requires-clause-found g c =
     let x = c.self.inside in
     let found = c.in-Ok.ensures.ok in λ is.
     ap (λ (w : Whole). w.past.label) c.whole.ensures
-    ∙ (finds (older c.deref.result.now x.plans (entered x.store c.swap_atom.new.other).entries c.begin-search.result.label) c.pass_over_before.new.search.place c.in-Ok.come.then c.pass_over_before.new.instance found.binding found.next is).1
+    ∙ (finds (older c.deref.result.now x.plans (entered x.store c.swap_atom.new.other).entries c.begin-search.result.label) found.over.after c.in-Ok.come.then c.pass_over_before.new.instance found.binding found.over.next is).1
     ∙ ap (λ (z : SearchState). z.label) c.begin-search.ensures ∙ c.next_label.ensures.value
