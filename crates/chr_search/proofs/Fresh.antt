@@ -1,5 +1,5 @@
 -- A head that only brings new variables takes the arguments of each atom that is found by its key.
-use Rattle.std.proofs.Common.{◌≡◌, ℕ, zero, suc, ◌+◌, Bool, true, false, ◌||◌, ◌==◌, if◌then◌else◌, List, [], ◌∷◌, take, length, Option, Some, None, slice_get, slice_set, get_or-set_other, refl, sym, ◌∙◌, ap, ap₂, subst, arith, ◌⊎◌, inl, inr, true-eqb}
+use Rattle.std.proofs.Common.{◌≡◌, ℕ, zero, suc, ◌+◌, Bool, true, false, ◌||◌, ◌==◌, if◌then◌else◌, List, [], ◌∷◌, take, length, Option, Some, None, slice_get, get_or-set_other, refl, sym, ◌∙◌, ap, ap₂, subst, arith, inl, inr, true-eqb}
 use Rattle.std.specs.Option.{option_map}
 use Rattle.std.proofs.lemmas.Bool.Decides.{nat_tests}
 use Rattle.chr_value.specs.Atoms.{Value, Comp, Cons, Atom}
@@ -8,6 +8,7 @@ use Rattle.chr_rule.specs.Rules.{Term, Var, Given, Open, Terms, End, And, RuleAt
 use Rattle.chr_guard.specs.Values.{Valuation, both, term_under, terms_under, key_under}
 use Rattle.chr_guard.specs.Bindings.{bound_at, Extends}
 use Rattle.chr_guard.specs.Instances.{all_values, atom_under}
+use Rattle.chr_guard.specs.Matching.{TakeValues, TakesValue, with_term}
 use Rattle.chr_model.specs.Stores.{atom_at}
 use Rattle.chr_plan.specs.Orders.{heads_of, stands_in, stands_among, has_variable, binds, is_bound, is_new, is_key, are_new, fresh_of, fresh_in, first_step, IsPlan}
 use Rattle.chr_plan.specs.declared.order.Step.{Step}
@@ -17,25 +18,6 @@ use Rattle.chr_search.specs.Partners.{HasPlan, IsReady, key_value}
 use Rattle.chr_search.proofs.Plans.{step_keyed, keyed_given}
 use Rattle.chr_search.proofs.Following.{pred_follows}
 use Rattle.chr_search.proofs.Partners.{keyed_grows}
-
--- a binding once a term stands for a value
-abbrev pub with_term : List (Option (Value ℕ)) → Term ℕ → Value ℕ → List (Option (Value ℕ))
-with_term binding (Var x) a = slice_set binding x (Some a)
-with_term binding (Given b) a = binding
-with_term binding (Open s ts) a = binding
-
--- a term is a variable that is free, or stands for the value already
-abbrev pub TakesValue : List (Option (Value ℕ)) → Term ℕ → Value ℕ → Type 0
-TakesValue binding (Var x) a = (bound_at binding x ≡ None) ⊎ (bound_at binding x ≡ Some a)
-TakesValue binding (Given b) a = b ≡ a
-TakesValue binding (Open s ts) a = ⊥
-
--- the same of terms, one after another
-abbrev pub TakeValues : List (Option (Value ℕ)) → List (Term ℕ) → List (Value ℕ) → Type 0
-TakeValues binding [] [] = Unit {0}
-TakeValues binding (t ∷ ts) (a ∷ as') =
-    TakesValue binding t a × TakeValues (with_term binding t a) ts as'
-TakeValues binding _ _ = ⊥
 
 -- ---- a variable that no head before has is free
 

@@ -1,7 +1,8 @@
 -- What the search for partners answers.
-use Rattle.std.specs.Prelude.{◌≡◌, ℕ, zero, suc, ◌-◌, ◌≤◌, Bool, true, false, List, length, Option, Some, None, slice_get}
+use Rattle.std.specs.Prelude.{◌≡◌, ◌↔◌, ℕ, zero, suc, ◌+◌, ◌-◌, ◌≤◌, IsTrue, Bool, true, false, List, length, Option, Some, None, slice_get}
 use Rattle.std.specs.Option.{MatchOption}
 use Rattle.chr_value.specs.Atoms.{Value}
+use Rattle.chr_rule.specs.Parts.{shape}
 use Rattle.chr_rule.specs.Rules.{Term, RuleAtom, head_at}
 use Rattle.chr_rule.specs.Scope.{IsRule}
 use Rattle.chr_guard.specs.Values.{Valuation, key_under}
@@ -13,6 +14,7 @@ use Rattle.chr_model.specs.Stores.{Distinct}
 use Rattle.chr_index.specs.Buckets.{IsLeastBetween}
 use Rattle.chr_store.specs.Keys.{key_of}
 use Rattle.chr_search.specs.declared.join.Asked.{Asked}
+use Rattle.chr_search.specs.declared.join.LastHead.{LastHead}
 use Rattle.chr_search.specs.Tree.{Least, NoneBeyond, LeastFrom, NoneFrom}
 use Rattle.chr_search.specs.Trials.{Join, Fit, MayFollow}
 
@@ -28,6 +30,12 @@ pub record HasPlan (j : Join) : Type 0 where
 pub record IsReady (j : Join) (labels : List ℕ) (binding : List (Option (Value ℕ))) : Type 0 where
   pub distinct : Distinct labels
   pub fit : IsFit j.rule (λ v. Fit j v j.order labels) binding
+
+-- where a label stands that comes after these: the next head, and whether it is the rule's last
+pub record IsLastHead {Z : Type 0} (j : Join) (labels : List ℕ) (at : LastHead Z) : Type 0 where
+  pub step_is : slice_get j.order (length labels) ≡ Some at.step
+  pub head_is : head_at j.rule at.step.head ≡ Some (shape at.head.now)
+  pub last : IsTrue at.is_last ↔ (length j.rule.kept + length j.rule.removed ≤ length labels + 1)
 
 -- what a head has at a place, places being numbered from 1, where that may be a key
 abbrev pub key_value : Valuation → Option (Term ℕ) → Option (Value ℕ)

@@ -1,17 +1,13 @@
 -- Searches that pass over trials.
-use Rattle.std.specs.Prelude.{◌≡◌, ◌≢◌, ℕ, zero, suc, ◌+◌, ◌<◌, ◌≤◌, ◌↔◌, IsTrue, Bool, true, false, List, [], ◌∷◌, ◌++◌, map, length, take, Option, Some, IfSome, slice_get}
+use Rattle.std.specs.Prelude.{◌≡◌, ◌≢◌, ℕ, zero, suc, ◌+◌, ◌<◌, ◌≤◌, Bool, true, false, List, [], ◌∷◌, ◌++◌, map, length, take, Option, Some, IfSome}
 use Rattle.std.specs.List.{AllByRecursion}
 use Rattle.chr_value.specs.Atoms.{Value}
 use Rattle.chr_value.specs.Stores.{atom_at}
-use Rattle.chr_rule.specs.Parts.{shape}
-use Rattle.chr_rule.specs.Rules.{head_at}
 use Rattle.chr_guard.specs.Bindings.{AreKnown}
-use Rattle.chr_plan.specs.declared.order.Step.{Step}
 use Rattle.chr_search.specs.declared.judged.Verdict.{Verdict}
 use Rattle.chr_search.specs.declared.judged.Verdict.TheVariants.{Misfit, Part, Whole}
 use Rattle.chr_search.specs.declared.passing.End.{End}
 use Rattle.chr_search.specs.declared.passing.End.TheVariants as ends
-use Rattle.chr_search.specs.declared.passing.LastHead.{LastHead}
 use Rattle.chr_search.specs.declared.passing.Level.{Level as CodeLevel}
 use Rattle.chr_search.specs.declared.passing.Next.{Next}
 use Rattle.chr_search.specs.declared.passing.Next.TheVariants as nexts
@@ -26,7 +22,7 @@ use Rattle.chr_search.specs.declared.search.Then.TheVariants as thens
 use Rattle.chr_search.specs.Positions.{at_or_after, past}
 use Rattle.chr_search.specs.Tree.{Grows, Beyond, Least, NoneBeyond, LeastFrom, NoneFrom}
 use Rattle.chr_search.specs.Trials.{Join, MayFollow, Space, IsNext, NoneLeft}
-use Rattle.chr_search.specs.Partners.{HasPlan, IsReady, GivePartners}
+use Rattle.chr_search.specs.Partners.{HasPlan, IsReady, GivePartners, IsLastHead}
 use Rattle.chr_search.specs.Verdicts.{Trial, labels, heads, position, kept_labels, removed_labels, IsFormed, IsTrialOf, IsWholeUnder}
 use Rattle.chr_search.specs.Judged.{Judgement, IsVerdict}
 use Rattle.chr_search.specs.Answers.{after_verdict, after_judging}
@@ -120,13 +116,6 @@ pub record PassesPlan (j : Join) (place : List ℕ) (passed : Passed) (ls : List
   pub after : List ℕ
   pub passes : PassesIn j passed.count place after
   pub ends : EndsIn j after passed.end ls binding
-
--- where a label stands that comes after these: the next head, and whether it is the rule's last
-pub record IsLastHead {Z : Type 0} (j : Join) (ls : List ℕ) (at : LastHead Z) : Type 0 where
-  pub step : Step
-  pub step_is : slice_get j.order (length ls) ≡ Some step
-  pub head_is : head_at j.rule step.head ≡ Some (shape at.head.now)
-  pub last : IsTrue at.is_last ↔ (length j.rule.kept + length j.rule.removed ≤ length ls + 1)
 
 -- what the trials of these labels and one more have in common: which variables the labels bind,
 -- where the last one stands, and perhaps the labels among which it is

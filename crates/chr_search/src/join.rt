@@ -4,7 +4,7 @@ ghost use Rattle.chr_guard.specs.Bindings.{Keeps, NarrowsIf};
 ghost use Rattle.chr_rule.specs.Parts.{shape};
 ghost use Rattle.chr_search.specs.Tree.{Least, NoneBeyond};
 ghost use Rattle.chr_search.specs.Trials.{MayFollow, StandsAt};
-ghost use Rattle.chr_search.specs.Partners.{HasPlan, IsReady, LengthenedIf, IsAskedFor, IsPartnerFrom, GivePartners};
+ghost use Rattle.chr_search.specs.Partners.{HasPlan, IsReady, LengthenedIf, IsAskedFor, IsPartnerFrom, GivePartners, IsLastHead};
 ghost use Rattle.chr_search.specs.Joined.{join_of};
 
 use crate::position::set_alone;
@@ -22,6 +22,16 @@ pub(crate) struct Join<'s, A: Allocator> {
     pub(crate) rule: &'s Rule<A>,
     pub(crate) order: &'s [Step],
     pub(crate) view: View<'s, A>,
+}
+
+/// Where a label stands that comes after others.
+#[derive(Clone, Copy)]
+pub(crate) struct LastHead<'s, A: Allocator> {
+    pub(crate) head: &'s RuleAtom<A>,
+    /// What the plan says of the head.
+    pub(crate) step: Step,
+    /// Whether no head is left then.
+    pub(crate) is_last: bool,
 }
 
 /// The predicate of a head.
@@ -98,21 +108,49 @@ impl<'s, A: Allocator + Copy> Join<'s, A> {
         self.view.next_at(asked.pred, asked.key, after)
     }
 
+    /// Where a label stands that comes after these. None where no label may be tried after these.
+    #[inline(always)]
+    pub(crate) fn last_head(&self, labels: &[Label]) -> Option<LastHead<'s, A>>
+        ensures { MatchOption result ((x : ℕ) → MayFollow (join_of self.now) labels.now x → ⊥) (IsLastHead (join_of self.now) labels.now) }
+    {
+        let step = self.order.get(labels.len())?;
+        let head = self.rule.head(usize::from(step.head))?;
+        Some(LastHead {
+            head,
+            step: *step,
+            is_last: self.rule.heads() <= labels.len() + 1,
+        })
+    }
+
     /// The labels among which are those that may be tried after these, to go through. None where there are none, or where
     /// the store keeps no index for them.
     #[inline(always)]
-    pub(crate) fn partners(&self, labels: &[Label], binding: &Binding<'s, A>) -> Option<Matches<'s>>
+    pub(crate) fn partners(
+        &self,
+        at: LastHead<'s, A>,
+        labels: &[Label],
+        binding: &Binding<'s, A>,
+    ) -> Option<Matches<'s>>
         requires plan { HasPlan (join_of self.now) }
         requires ready { IsReady (join_of self.now) labels.now binding.now }
+        requires at { IsLastHead (join_of self.now) labels.now at }
         ensures { IfSome result (GivePartners (join_of self.now) labels.now) }
     {
         if labels.is_empty() {
             return None;
         }
-        let asked = self.asked(labels, binding)?;
         // For the proof: the labels of a store are numbered from 1.
         let _given = self.view.active();
-        self.view.matches(asked.pred, asked.key)
+        let pred = pred_of(at.head);
+        let key = match at.step.key {
+            None => None,
+            Some(place) => {
+                let term = at.head.terms.get(usize::from(place) - 1)?;
+                let value = binding.key(term)?;
+                Some((place, value))
+            }
+        };
+        self.view.matches(pred, key)
     }
 
     /// Adds the least partner from one on. False where there is none.

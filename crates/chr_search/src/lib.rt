@@ -6,7 +6,8 @@
 //! and remove from it. [`candidate`](Search::candidate) makes the least admissible trial at or after the
 //! position, [`judge`] tells whether it misfits, is a part of an instance or is a whole one, as [`settled_on`] does of a
 //! trial that stays where it is, and [`advance`](Search::advance) moves the search past what has been judged.
-//! [`pass_over`](Search::pass_over) does the same for all trials up to one that is whole, and makes none of them.
+//! [`pass_over`](Search::pass_over) does the same for all trials up to one that is whole, and makes none of them. It
+//! binds without a comparison what it finds for a head that a plan calls fresh.
 //! [`pass_over_before`](Search::pass_over_before) does it before the active atom is entered, as if it were: where
 //! the whole trial removes that atom, its firing spares the store both the entering and the removal.
 //!

@@ -7,19 +7,18 @@ ghost use Rattle.chr_guard.specs.Bindings.{Keeps};
 ghost use Rattle.chr_search.specs.declared.passing.End.TheVariants as ends;
 ghost use Rattle.chr_search.specs.declared.passing.Stop.TheVariants as stops;
 ghost use Rattle.chr_search.specs.Joined.{join_of};
-ghost use Rattle.chr_search.specs.Partners.{HasPlan, IsReady, IsPartnerFrom};
-ghost use Rattle.chr_search.specs.Passing.{IsTrialIn, BeginsTrials, AreMisfits, IsCounted, PassesPlan, IsLastHead, IsLevel, IsNarrowedIf, IsTried, ComesNext, IsBelow, PassesBelow, PassesLevel};
+ghost use Rattle.chr_search.specs.Partners.{HasPlan, IsReady, IsPartnerFrom, IsLastHead};
+ghost use Rattle.chr_search.specs.Passing.{IsTrialIn, BeginsTrials, AreMisfits, IsCounted, PassesPlan, IsLevel, IsNarrowedIf, IsTried, ComesNext, IsBelow, PassesBelow, PassesLevel};
 ghost use Rattle.chr_search.specs.Tree.{Grows};
 ghost use Rattle.chr_search.specs.Trials.{IsInTurn, MayFollow};
 ghost use Rattle.chr_search.specs.Verdicts.{Trial};
 
-use crate::join::Join;
+use crate::join::{Join, LastHead};
 use crate::judged::Verdict;
 use crate::position::set_alone;
 use crate::search::Instance;
 use chr_guard::instance::becomes_instance;
-use chr_guard::{Binding, Known, fit_partner};
-use chr_rule::RuleAtom;
+use chr_guard::{Binding, Known, bind_partner, fit_partner};
 use chr_store::{Label, Matches};
 use chr_value::Atom;
 use std::alloc::Allocator;
@@ -40,14 +39,6 @@ pub(crate) enum End {
 pub(crate) struct Passed {
     pub(crate) count: u64,
     pub(crate) end: End,
-}
-
-/// Where the last labels of trials stand.
-#[derive(Clone, Copy)]
-struct LastHead<'s, A: Allocator> {
-    head: &'s RuleAtom<A>,
-    /// Whether no head is left then.
-    is_last: bool,
 }
 
 /// The labels of trials but the last.
@@ -182,19 +173,6 @@ impl<'s, A: Allocator + Copy> Join<'s, A> {
         self.fit_at(narrowed, *step, label)
     }
 
-    /// Where a label stands that comes after these. None where no label may be tried after these.
-    #[inline(always)]
-    fn last_head(&self, labels: &[Label]) -> Option<LastHead<'s, A>>
-        ensures { MatchOption result ((x : ℕ) → MayFollow (join_of self.now) labels.now x → ⊥) (IsLastHead (join_of self.now) labels.now) }
-    {
-        let step = self.order.get(labels.len())?;
-        let head = self.rule.head(usize::from(step.head))?;
-        Some(LastHead {
-            head,
-            is_last: self.rule.heads() <= labels.len() + 1,
-        })
-    }
-
     /// What the trials of these labels and one more have in common. None where no label may be tried after these.
     #[inline(always)]
     pub(crate) fn level(&self, labels: &[Label], binding: &Binding<'s, A>) -> Option<Level<'s, A>>
@@ -202,10 +180,11 @@ impl<'s, A: Allocator + Copy> Join<'s, A> {
         requires ready { IsReady (join_of self.now) labels.now binding.now }
         ensures { MatchOption result ((x : ℕ) → MayFollow (join_of self.now) labels.now x → ⊥) (IsLevel (join_of self.now) labels.now binding.now) }
     {
+        let at = self.last_head(labels)?;
         Some(Level {
             known: binding.known(),
-            at: self.last_head(labels)?,
-            partners: self.partners(labels, binding),
+            at,
+            partners: self.partners(at, labels, binding),
         })
     }
 
@@ -261,6 +240,7 @@ impl<'s, A: Allocator + Copy> Join<'s, A> {
         narrowed: &mut Binding<'s, A>,
     ) -> Verdict
         requires others { path.others.now ≡ drop 1 path.labels.now }
+        requires plan { HasPlan (join_of self.now) }
         requires at { IsLastHead (join_of self.now) path.labels.now at }
         requires ready { IsReady (join_of self.now) path.labels.now narrowed.old }
         requires grows { Grows (MayFollow (join_of self.now)) [] path.labels.now }
@@ -273,7 +253,10 @@ impl<'s, A: Allocator + Copy> Join<'s, A> {
         if is_among(path.others, label) {
             return Verdict::Misfit;
         }
-        if !fit_partner(narrowed, at.head, atom) {
+        // Nothing is compared at a fresh head: what the index found has the key's value, and the rest is new.
+        if at.step.fresh {
+            bind_partner(narrowed, at.head, atom);
+        } else if !fit_partner(narrowed, at.head, atom) {
             return Verdict::Misfit;
         }
         if !at.is_last {

@@ -29,7 +29,6 @@ returns g c =
     let rule = c.args.self.now.rule.now in
     let count : c.heads.result ≡ length rule.kept + length rule.removed = c.heads.ensures.count in
     record {
-      step = c.in_ok-step.step.now;
       step_is = next g (goal.at.returns g c).In_ok-step;
       head_is = subst (λ n. head_at rule n ≡ Some (shape c.in_ok-head.head.now)) c.from.ensures (sym c.in_ok-head.ensures.head);
       last = (λ t. grind (arith, nat_tests), λ h. grind (arith, nat_tests));

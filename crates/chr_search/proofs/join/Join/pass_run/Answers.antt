@@ -38,7 +38,7 @@ judge_at-requires g c =
     let follows = c.in-Some.ensures.least.holds in
     let grown = grows_more (MayFollow j) [] labels label grows follows in
     let others = c.of-path.ensures.others ∙ ap (drop 1) (sym c.of-path.ensures.labels) in
-    (omega arith, (others, ((level g (goal.at.judge_at-requires g c).After-next_at).at, (ready, (grows, (follows, (c.atom_of-atom.ensures, c.requires.begins.trials (labels ++ label ∷ []) (omega (arith, length-append labels (label ∷ []))) grown)))))))
+    (omega arith, (others, (c.requires.begins.plan, ((level g (goal.at.judge_at-requires g c).After-next_at).at, (ready, (grows, (follows, (c.atom_of-atom.ensures, c.requires.begins.trials (labels ++ label ∷ []) (omega (arith, length-append labels (label ∷ []))) grown))))))))
 
 pub return_to-requires : goal.return_to-requires
 return_to-requires g c =
