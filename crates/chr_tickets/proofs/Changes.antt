@@ -1,5 +1,5 @@
 -- The list of all tickets and the queue of those that may be open; changes of an open one in its place.
-use Rattle.std.proofs.Common.{◌≡◌, ℕ, zero, suc, ◌<◌, ◌≤◌, Bool, List, Option, length, refl, sym, ap, ◌∙◌, arith, ◌+◌, ◌-◌, ◌^◌, ◌%◌, false, [], ◌∷◌, ◌++◌, map, set, get_or, replicate, subst, ⊎_elim, None, Some, take}
+use Rattle.std.proofs.Common.{◌≡◌, ◌↔◌, IsTrue, MatchBool, ℕ, zero, suc, ◌<◌, ◌≤◌, Bool, true, List, Option, length, refl, sym, ap, ◌∙◌, arith, ◌+◌, ◌-◌, ◌^◌, ◌%◌, false, [], ◌∷◌, ◌++◌, map, set, get_or, replicate, subst, ⊎_elim, None, Some, take}
 use Rattle.std.proofs.lemmas.Bool.{false≢true, cases_lt}
 use Rattle.std.proofs.lemmas.Bool.Decides.{nat_tests}
 use Rattle.chr_model.specs.Goals.{Goal, Numbered, Ended, Plain}
@@ -8,7 +8,7 @@ use Rattle.chr_calls.specs.Tickets.{Ticket, ended, ticket_at, state_with, state_
 use Rattle.chr_tickets.specs.declared.ticket.Goal.{Goal as CodeGoal}
 use Rattle.chr_tickets.specs.Open.{shown, state_in, IsActiveGoal, shown_ticket}
 use Rattle.std.specs.Option.{IsSome, MatchOption}
-use Rattle.std.proofs.lemmas.List.{get_or_past, get_or_append_left, get_or-append_right, get_or-map, get_or-replicate, set-append_right, length-append, length-map, length-replicate, map-set, get_or_default, get_or-set_same, get_or_push, set_at, take_at}
+use Rattle.std.proofs.lemmas.List.{set-get_or, get_or_past, get_or_append_left, get_or-append_right, get_or-map, get_or-replicate, set-append_right, length-append, length-map, length-replicate, map-set, get_or_default, get_or-set_same, get_or_push, set_at, take_at}
 use Rattle.std.proofs.Math.ListN.{length-set}
 use Rattle.chr_calls.proofs.Tickets.{is_set, stands, after_set}
 use Rattle.chr_tickets.specs.Listed.{Slot, shown_or_ended, listed, StartsOpen, AreUnmarked, AreQueued, IsOpenAt}
@@ -79,6 +79,9 @@ stray_open L t is e = false≢true (ap (λ (x : Ticket). x.stray) (sym e) ∙ is
 pub waiting_here : (L : List Ticket) (t : ℕ) (x : Ticket) → ticket_at L t ≡ x → state_of L t ≡ states.Waiting → state_in x ≡ states.Waiting
 waiting_here L t x e is = ap state_in (sym e) ∙ state_found L t states.Waiting is (λ k. cc)
 
+pub never_waits : (L : List Ticket) (t : ℕ) → ticket_at L t ≡ ended → IsTrue false ↔ state_of L t ≡ states.Waiting
+never_waits L t e = (λ no. absurd (false≢true no), λ is. absurd (waiting_open L t is e))
+
 -- ---- it is active
 
 pub resting_active : (L : List Ticket) (t : ℕ) (x : Ticket) → ticket_at L t ≡ x → state_of L t ≡ states.Resting → IsActiveGoal x.goal
@@ -132,6 +135,14 @@ missing {Z} {first} {m} {slots} {L} t k g e is small past =
 -- what the list has there
 pub here : {Z : Type 0} {first t k : ℕ} {slots : List (Slot Z)} {L : List Ticket} {slot : Slot Z} → Stands first slots t k → listed first slots ≡ L → slot ≡ get_or slots k slot → ticket_at L t ≡ shown_or_ended slot
 here {Z} {first} {t} {k} {slots} {L} {slot} s e is = ap (λ xs. ticket_at xs t) (sym e) ∙ ap (λ u. ticket_at (listed first slots) u) (sym s.at) ∙ read_at first slots k slot s.within is
+
+-- and whether it waits
+pub waits_there : {Z : Type 0} {first t k m : ℕ} {slots : List (Slot Z)} {L : List Ticket} (told : Bool) (x : Ticket) → AreQueued first slots m → Stands first slots t k → listed first slots ≡ L → ticket_at L t ≡ x → IsTrue told ↔ state_in x ≡ states.Waiting → IsTrue told ↔ state_of L t ≡ states.Waiting
+waits_there {Z} {first} {t} {k} {m} {slots} {L} told x g s shows there means =
+    let long : length L ≡ first + length slots = ap length (sym shows) ∙ length_listed first slots in
+    let one : 1 ≤ t = (let some = g.some in let at = s.at in omega arith) in
+    let given : t < length L = (let within = s.within in let at = s.at in omega arith) in
+    (λ yes. state_known L t one given ∙ ap state_in there ∙ means.0 yes, λ is. means.1 (waiting_here L t x there is))
 
 -- ---- after a change of one slot
 
@@ -210,6 +221,12 @@ changed {Z} {L} {x} first slots t f w shows live is becomes =
 pub still_queued : {Z : Type 0} {m : ℕ} {L : List Ticket} {x : CodeTicket Z} (first : ℕ) (slots : List (Slot Z)) (t n : ℕ) (f : Ticket → Ticket) (w : CodeTicket Z) → AreQueued first slots m → listed first slots ≡ L → (ticket_at L t ≡ ended → ⊥) → Some x ≡ get_or slots (t - first) (Some x) → (ticket_at L t ≡ shown_ticket x → shown_ticket w ≡ f (shown_ticket x)) → n ≤ m → (t < n → (f (ticket_at L t)).stray ≡ false) → AreQueued first (set slots (t - first) (Some w)) n
 still_queued {Z} {m} {L} {x} first slots t n f w queued shows live is becomes le unmarked =
     kept n (f (ticket_at L t)) (Some w) queued shows (changed first slots t f w shows live is becomes) (λ z. refl) le unmarked
+
+-- ---- one that has changed where this is told, and else is as it was
+
+pub changed_where : {after : List Ticket} {x : Ticket} (L : List Ticket) (y : Ticket) (told : Bool) (t : ℕ) (f : Ticket → Ticket) → ticket_at L t ≡ x → after ≡ set L t y → MatchBool told (y ≡ f x) (y ≡ x) → MatchBool told (after ≡ set L t (f (ticket_at L t))) (after ≡ L)
+changed_where L y true t f there e h = e ∙ ap (set L t) (h ∙ ap f (sym there))
+changed_where L y false t f there e h = e ∙ ap (set L t) (h ∙ sym there) ∙ set-get_or L t ended
 
 -- ---- a ticket whose search passes over trials, in its place
 

@@ -1,5 +1,5 @@
 //! A ticket that is open.
-ghost use Rattle.std.specs.Prelude.{◌≡◌, ◌≤◌, false, Some, None, IsTrue, IfOk, MatchOption};
+ghost use Rattle.std.specs.Prelude.{◌≡◌, ◌↔◌, ◌≤◌, false, Some, None, IsTrue, IfOk, MatchBool, MatchOption};
 ghost use Rattle.std.specs.Option.{option_copied};
 ghost use Rattle.chr_plan.specs.Plans.{ArePlans};
 ghost use Rattle.chr_calls.specs.declared.answers.TicketState.TheVariants.{Held, Waiting};
@@ -103,17 +103,19 @@ impl<A: Allocator + Copy> Ticket<A> {
         body::add_arguments(alloc, atom, pattern, binding)
     }
 
-    /// Swaps the atom that waits with another.
+    /// Swaps the atom that waits with another. False where none waits: then nothing has changed.
     #[inline(always)]
-    pub(crate) fn swap_atom(&mut self, other: &mut Atom<A>)
-        requires { state_in (shown_ticket self.old) ≡ Waiting }
-        ensures atom { Some other.new ≡ atom_in (shown_ticket self.old).goal }
-        ensures rest { shown_ticket self.new ≡ with_atom other.old (shown_ticket self.old) }
+    pub(crate) fn take_waiting(&mut self, other: &mut Atom<A>) -> bool
+        ensures waits { IsTrue result ↔ state_in (shown_ticket self.old) ≡ Waiting }
+        ensures atom { MatchBool result (Some other.new ≡ atom_in (shown_ticket self.old).goal) (other.new ≡ other.old) }
+        ensures mark { (shown_ticket self.new).stray ≡ (shown_ticket self.old).stray }
+        ensures ticket { MatchBool result (shown_ticket self.new ≡ with_atom other.old (shown_ticket self.old)) (shown_ticket self.new ≡ shown_ticket self.old) }
     {
         let Goal::Waiting(atom) = &mut self.goal else {
-            unreachable!();
+            return false;
         };
         mem::swap(atom, other);
+        true
     }
 
     /// The search.

@@ -1,5 +1,5 @@
 //! The tickets of a book.
-ghost use Rattle.std.specs.Prelude.{◌≡◌, ◌↔◌, ◌≤◌, ◌++◌, ◌∷◌, [], true, Some, length, take, slice_set, IsSome, IsTrue, OnOk, OnErr, MatchOption};
+ghost use Rattle.std.specs.Prelude.{◌≡◌, ◌↔◌, ◌≤◌, ◌++◌, ◌∷◌, [], true, Some, length, take, slice_set, IsSome, IsTrue, OnOk, OnErr, MatchBool, MatchOption};
 ghost use Rattle.std.specs.Option.{option_copied};
 ghost use Rattle.chr_plan.specs.Plans.{ArePlans};
 ghost use Rattle.chr_calls.specs.declared.answers.TicketState.TheVariants.{Waiting, Resting};
@@ -111,15 +111,21 @@ impl<A: Allocator + Copy> Tickets<A> {
         self.found(ticket)?.atom()
     }
 
-    /// Swaps the atom of a ticket that waits with another.
+    /// Swaps the atom of a ticket that waits with another. False where the ticket doesn't wait: then nothing has changed.
     #[inline(always)]
-    pub fn swap_atom(&mut self, ticket: u64, other: &mut Atom<A>)
-        requires { state_of self.old ticket ≡ Waiting }
-        ensures atom { Some other.new ≡ atom_in (ticket_at self.old ticket).goal }
-        ensures rest { self.new ≡ slice_set self.old ticket (with_atom other.old (ticket_at self.old ticket)) }
+    pub fn take_waiting(&mut self, ticket: u64, other: &mut Atom<A>) -> bool
+        ensures waits { IsTrue result ↔ state_of self.old ticket ≡ Waiting }
+        ensures atom { MatchBool result (Some other.new ≡ atom_in (ticket_at self.old ticket).goal) (other.new ≡ other.old) }
+        ensures tickets { MatchBool result (self.new ≡ slice_set self.old ticket (with_atom other.old (ticket_at self.old ticket))) (self.new ≡ self.old) }
     {
-        let found = open_at(&mut self.slots, self.first, ticket);
-        found.swap_atom(other);
+        let at = place_of(self.first, ticket);
+        if at >= self.slots.len() {
+            return false;
+        }
+        let Some(found) = &mut self.slots[at] else {
+            return false;
+        };
+        found.take_waiting(other)
     }
 
     /// The search of an active goal.
