@@ -1,7 +1,8 @@
 -- Rounds of calls: trials are passed over one by one, and the last round fires what was found whole or drops the goal; those of a
 -- ticket that waits are made in the store as it is once its atom is entered, which it needn't be where what fires removes it.
-use Rattle.std.proofs.Common.{◌≡◌, ℕ, zero, suc, List, Option, Some, Ok, refl, sym, ◌∙◌, ap, subst, slice_set, inr, ◌-◌, ◌<◌, length, take, arith, [], ◌∷◌, ◌++◌, None, ap₂, Bool, ◌≢◌, ◌==◌, ◌+◌, ◌≤◌, true, false, not, if◌then◌else◌, inl, Result, Err, OnErr}
-use Rattle.std.proofs.lemmas.List.{set-get_or, set-set, length-set, append-nil, length-append, set-append_left, length-map, append_assoc}
+use Rattle.std.proofs.Common.{◌≡◌, ◌↔◌, IsTrue, MatchBool, ℕ, zero, suc, drop, get_or, List, Option, Some, Ok, refl, sym, ◌∙◌, ap, subst, slice_set, inr, ◌-◌, ◌<◌, length, take, arith, [], ◌∷◌, ◌++◌, None, ap₂, Bool, ◌≢◌, ◌==◌, ◌+◌, ◌≤◌, true, false, not, if◌then◌else◌, inl, Result, Err, OnErr}
+use Rattle.std.proofs.lemmas.List.{drop_more, set-get_or, set-set, length-set, append-nil, length-append, set-append_left, length-map, append_assoc}
+use Rattle.std.proofs.lemmas.Bool.{MatchBool-at_true}
 use Rattle.std.proofs.lemmas.Bool.Decides.{nat_tests}
 use Rattle.chr_value.specs.Atoms.{Value, Atom}
 use Rattle.chr_value.proofs.Chosen.{some_is}
@@ -14,7 +15,7 @@ use Rattle.chr_model.specs.Programs.{Instances}
 use Rattle.chr_model.proofs.Once.{Lawful-once}
 use Rattle.chr_model.proofs.Older.{store_below}
 use Rattle.chr_plan.specs.Plans.{PlanList}
-use Rattle.chr_store.specs.Labels.{LabelledStore}
+use Rattle.chr_store.specs.Labels.{LabelledStore, GivenBefore, IsLabelled}
 use Rattle.chr_search.specs.Trials.{IsNext, Space, NoneLeft, older}
 use Rattle.chr_search.specs.Verdicts.{position}
 use Rattle.chr_search.specs.Answers.{after_judging}
@@ -318,8 +319,8 @@ pub record IsLent (ts now : List Ticket) (t : ℕ) (a : Atom ℕ) : Type 0 where
   pub other : Atom ℕ
   pub lent_is : now ≡ slice_set ts t (with_atom other (ticket_at ts t))
 
-pub is_lent : (b now : BookState) → b ≡ now → (t : ℕ) (a other : Atom ℕ) (ts : List Ticket) → state_of now.tickets t ≡ Waiting → Some a ≡ atom_in (ticket_at b.tickets t).goal → ts ≡ slice_set b.tickets t (with_atom other (ticket_at b.tickets t)) → IsLent b.tickets ts t a
-is_lent b now e t a other ts waits atom rest = record { waits = subst (λ (n : BookState). state_of n.tickets t ≡ Waiting) (sym e) waits; atom = atom; other = other; lent_is = rest }
+pub is_lent : (ts now : List Ticket) (t : ℕ) (a other : Atom ℕ) (told : Bool) → IsTrue told → IsTrue told ↔ state_of ts t ≡ Waiting → MatchBool told (Some a ≡ atom_in (ticket_at ts t).goal) (a ≡ other) → MatchBool told (now ≡ slice_set ts t (with_atom other (ticket_at ts t))) (now ≡ ts) → IsLent ts now t a
+is_lent ts now t a other told taken means atom rest = record { waits = means.0 taken; atom = MatchBool-at_true _ _ taken atom; other = other; lent_is = MatchBool-at_true _ _ taken rest }
 
 pub waits_lent : {ts now : List Ticket} {t : ℕ} {a : Atom ℕ} → IsLent ts now t a → state_of now t ≡ Waiting
 waits_lent {ts} {now} {t} {a} h =
@@ -347,8 +348,9 @@ put_back {ts} {now} {t} {a} h =
     let there : ticket_at now t ≡ with_atom h.other x = ap (λ (xs : List Ticket). ticket_at xs t) h.lent_is ∙ ticket_same ts t (with_atom h.other x) (waiting_is ts t h.waits).within in
     lent_set (with_atom a (ticket_at now t)) h ∙ ap (slice_set ts t) (ap (with_atom a) there ∙ ap (λ (g : Goal). with_goal g x) (sym (plain_is x.goal a h.atom))) ∙ set-get_or ts t ended
 
-pub put_back_of : {ts now left new : List Ticket} {t : ℕ} {a : Atom ℕ} → IsLent ts now t a → left ≡ now → new ≡ slice_set left t (with_atom a (ticket_at left t)) → new ≡ ts
-put_back_of {ts} {now} {left} {new} {t} {a} h same e = e ∙ ap (λ (xs : List Ticket). slice_set xs t (with_atom a (ticket_at xs t))) same ∙ put_back h
+pub put_back_of : {ts now left new : List Ticket} {t : ℕ} {a : Atom ℕ} (told : Bool) → IsLent ts now t a → left ≡ now → IsTrue told ↔ state_of left t ≡ Waiting → MatchBool told (new ≡ slice_set left t (with_atom a (ticket_at left t))) (new ≡ left) → new ≡ ts
+put_back_of {ts} {now} {left} {new} {t} {a} told h same means rest =
+    MatchBool-at_true _ _ (means.1 (ap (λ (xs : List Ticket). state_of xs t) same ∙ waits_lent h)) rest ∙ ap (λ (xs : List Ticket). slice_set xs t (with_atom a (ticket_at xs t))) same ∙ put_back h
 
 -- the goal has entered, and its search goes on
 pub goes_in : (seat t : ℕ) (place : List ℕ) (a : Atom ℕ) (ts : List Ticket) (log : List (Entry ℕ)) (st : LabelledStore) (now : List Ticket) (entries : List (Entry ℕ)) (after : LabelledStore) (new : List Ticket) → state_of ts t ≡ Waiting → EntersGoal seat t beginning a ts log st now entries after → new ≡ slice_set now t (going_on place (ticket_at now t)) → EntersGoal seat t place a ts log st new entries after
@@ -458,6 +460,25 @@ dropped_entered l n a (e ∷ st) = grind (arith, nat_tests, dropped_entered l n 
 without_entered : (ls : List ℕ) (st : Store) (n : ℕ) (a : Atom ℕ) → among ls n ≡ true → without ls (st ++ (n, a) ∷ []) ≡ without ls st
 without_entered [] st n a h = absurd (cc)
 without_entered (l ∷ ls) st n a h = grind (arith, nat_tests, dropped_entered l n a st, without_entered ls (drop_label l st) n a)
+
+-- the next label isn't in the store
+not_given : (next : ℕ) (st : Store) → GivenBefore next st → drop_label next st ≡ st
+not_given next [] h = refl
+not_given next (e ∷ st) h = let less : e.0 < next = h.0.1 in grind (arith, nat_tests, not_given next st h.1)
+
+pub next_absent : (label : ℕ) (st spent : LabelledStore) → IsLabelled st → label ≡ st.next → spent.entries ≡ st.entries → drop_label label spent.entries ≡ spent.entries
+next_absent label st spent h is same = ap₂ drop_label is same ∙ not_given st.next st.entries h.given ∙ sym same
+
+-- nor is it where another is taken out
+dropped_twice : (l m : ℕ) (st : Store) → drop_label l (drop_label m st) ≡ drop_label m (drop_label l st)
+dropped_twice l m [] = refl
+dropped_twice l m (e ∷ st) = grind (arith, nat_tests, dropped_twice l m st)
+
+pub others_out : (ls : List ℕ) (i absent : ℕ) (st new old : Store) → i < length ls → new ≡ drop_label (get_or ls i 0) st → drop_label absent st ≡ st → without (drop i ls) st ≡ without ls old → (without (drop (i + 1) ls) new ≡ without ls old) × (drop_label absent new ≡ new)
+others_out ls i absent st new old within is none left = (
+  ap (without (drop (i + 1) ls)) is ∙ sym (ap (λ (xs : List ℕ). without xs st) (drop_more ls i 0 within)) ∙ left,
+  ap (drop_label absent) is ∙ dropped_twice absent (get_or ls i 0) st ∙ ap (drop_label (get_or ls i 0)) none ∙ sym is,
+)
 
 -- a firing of a ticket that is gone on, under the label of its search, which is removed
 fires_gone_on : (seat t l : ℕ) (rule : Simpagation ℕ) (i : Instance) (binding : List (Option (Value ℕ))) (place : List ℕ) (a : Atom ℕ) (ts lent_ts more pushed : List Ticket) (log : List (Entry ℕ)) (st : LabelledStore) (new : List Ticket) (entries : List (Entry ℕ)) (after : LabelledStore) → i.whole.past.label ≡ l → among i.whole.removed.items i.whole.past.label ≡ true

@@ -9,7 +9,6 @@ ghost use Rattle.chr_book.specs.Passed.{IsHeldLive, rounds_in, MakesRounds, Make
 use crate::book::Book;
 use crate::firing::{end_rounds, end_start};
 use crate::passing::{pass_over, pass_over_before};
-use chr_calls::TicketState;
 use chr_search::Search;
 use chr_tickets::Tickets;
 use chr_value::Atom;
@@ -58,9 +57,7 @@ fn take_back<A: Allocator + Copy>(
     ensures other { let kept = take first tickets.old in state_of kept ticket ≢ states.Waiting → tickets.new ≡ kept }
 {
     tickets.truncate(first);
-    if tickets.state(ticket) == TicketState::Waiting {
-        tickets.swap_atom(ticket, atom);
-    }
+    tickets.take_waiting(ticket, atom);
 }
 
 /// No round.
@@ -121,8 +118,7 @@ impl<A: Allocator + Copy> Book<A> {
     /// trial, and with the right verdict [`report`](Book::report) passes over it, up to one that is whole: that one
     /// [`fire`](Book::fire) fires, which is the last round; where no trial is left, [`drop_goal`](Book::drop_goal) drops the
     /// goal in the last round. Where none fires or drops, they are one fewer than asked for. No round where the seat doesn't
-    /// hold the ticket or the goal's label has left the store. An `Err` is E01: either the rounds before the last were made or
-    /// none was.
+    /// hold the ticket or the goal's label has left the store. An `Err` is E01, and nothing has changed.
     pub fn go_on(&mut self, seat: u32, ticket: u64, most: u64) -> Result<Rounds, AllocError>
         ensures few { IfOk result (λ rounds. rounds_in rounds ≤ most) }
         ensures all { IsHeldLive self.old seat ticket → IfOk result (λ rounds. rounds.last ≡ lasts.Passed → most ≤ rounds.passed + 1) }
@@ -138,17 +134,24 @@ impl<A: Allocator + Copy> Book<A> {
         self.make_rounds(seat, ticket, most)
     }
 
-    /// The claim and the rounds of [`start`](Book::start), where there are any.
-    fn start_rounds(&mut self, seat: u32, ticket: u64, most: u64) -> Result<Rounds, AllocError>
-        requires waiting { state_of self.old.tickets ticket ≡ states.Waiting }
+    /// The claim and the rounds of [`start`](Book::start), where a label can be given and a round was asked for.
+    fn start_rounds(
+        &mut self,
+        seat: u32,
+        ticket: u64,
+        most: u64,
+    ) -> Result<Option<Rounds>, AllocError>
         requires room { self.old.next ≤ self.old.limit }
         requires some { 1 ≤ most }
-        ensures few { IfOk result (λ rounds. rounds_in rounds ≤ most) }
-        ensures all { IfOk result (λ rounds. rounds.last ≡ lasts.Passed → most ≤ rounds.passed + 1) }
-        ensures ok { IfOk result (λ rounds. StartsRounds seat ticket rounds self.old self.new) }
+        ensures few { IfOk result (λ started. IfSome started (λ rounds. rounds_in rounds ≤ most)) }
+        ensures all { IfOk result (λ started. IfSome started (λ rounds. rounds.last ≡ lasts.Passed → most ≤ rounds.passed + 1)) }
+        ensures some { state_of self.old.tickets ticket ≡ states.Waiting → IfOk result (λ started. IsSome started) }
+        ensures ok { IfOk result (λ started. MatchOption started (self.new ≡ self.old) (λ rounds. StartsRounds seat ticket rounds self.old self.new)) }
         ensures err { OnErr result (StartsFewer seat ticket most self.old self.new) }
     {
-        self.tickets.swap_atom(ticket, &mut self.started);
+        if !self.tickets.take_waiting(ticket, &mut self.started) {
+            return Ok(None);
+        }
         let mut search = Search::begin(self.store.next_label());
         let first = self.tickets.next();
         let Ok(come) = pass_over_before(
@@ -178,15 +181,15 @@ impl<A: Allocator + Copy> Book<A> {
             take_back(&mut self.tickets, first, ticket, &mut self.started);
             return Err(AllocError);
         };
-        Ok(Rounds {
+        Ok(Some(Rounds {
             passed: come.count,
             last,
-        })
+        }))
     }
 
     /// Claims a ticket that waits, and makes rounds for it as [`go_on`](Book::go_on) does, at most so many. None only where
     /// it doesn't wait, the labels are spent, or no round was asked for: then nothing has changed. An `Err` is E01: nothing
-    /// has changed, or the ticket was claimed and either the rounds before the last were made or none was.
+    /// has changed, or the ticket was claimed and no round was made.
     pub fn start(&mut self, seat: u32, ticket: u64, most: u64) -> Result<Option<Rounds>, AllocError>
         ensures few { IfOk result (λ started. IfSome started (λ rounds. rounds_in rounds ≤ most)) }
         ensures all { IfOk result (λ started. IfSome started (λ rounds. rounds.last ≡ lasts.Passed → most ≤ rounds.passed + 1)) }
@@ -197,9 +200,6 @@ impl<A: Allocator + Copy> Book<A> {
         if most == 0 || self.limit < self.store.next_label() {
             return Ok(None);
         }
-        if self.tickets.state(ticket) != TicketState::Waiting {
-            return Ok(None);
-        }
-        Ok(Some(self.start_rounds(seat, ticket, most)?))
+        self.start_rounds(seat, ticket, most)
     }
 }
