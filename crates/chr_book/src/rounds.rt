@@ -118,7 +118,8 @@ impl<A: Allocator + Copy> Book<A> {
     /// trial, and with the right verdict [`report`](Book::report) passes over it, up to one that is whole: that one
     /// [`fire`](Book::fire) fires, which is the last round; where no trial is left, [`drop_goal`](Book::drop_goal) drops the
     /// goal in the last round. Where none fires or drops, they are one fewer than asked for. No round where the seat doesn't
-    /// hold the ticket or the goal's label has left the store. An `Err` is E01, and nothing has changed.
+    /// hold the ticket or the goal's label has left the store. An `Err` is E01: rounds that pass over trials may have been
+    /// made, fewer than asked for, and no other.
     pub fn go_on(&mut self, seat: u32, ticket: u64, most: u64) -> Result<Rounds, AllocError>
         ensures few { IfOk result (λ rounds. rounds_in rounds ≤ most) }
         ensures all { IsHeldLive self.old seat ticket → IfOk result (λ rounds. rounds.last ≡ lasts.Passed → most ≤ rounds.passed + 1) }
@@ -189,7 +190,7 @@ impl<A: Allocator + Copy> Book<A> {
 
     /// Claims a ticket that waits, and makes rounds for it as [`go_on`](Book::go_on) does, at most so many. None only where
     /// it doesn't wait, the labels are spent, or no round was asked for: then nothing has changed. An `Err` is E01: nothing
-    /// has changed, or the ticket was claimed and no round was made.
+    /// has changed, or the ticket was claimed, and such rounds may have been made as after an `Err` of [`go_on`](Book::go_on).
     pub fn start(&mut self, seat: u32, ticket: u64, most: u64) -> Result<Option<Rounds>, AllocError>
         ensures few { IfOk result (λ started. IfSome started (λ rounds. rounds_in rounds ≤ most)) }
         ensures all { IfOk result (λ started. IfSome started (λ rounds. rounds.last ≡ lasts.Passed → most ≤ rounds.passed + 1)) }

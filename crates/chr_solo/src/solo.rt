@@ -149,7 +149,7 @@ fn call_for<A: Allocator + Copy>(
 
 /// Where nothing is known of the search of the next ticket, claims it if it waits, and makes rounds of two calls for it, at
 /// most so many calls and at most 2,049. Returns how many calls; none are made where the ticket rests, or waits and the labels
-/// are spent. An `Err` is E01: nothing has changed, or the ticket was claimed.
+/// are spent. An `Err` is E01: nothing has changed, or some of the calls before the last round were made.
 fn make_rounds<A: Allocator + Copy>(
     book: &mut Book<A>,
     seat: u32,
