@@ -179,6 +179,13 @@ module _ (held : Held) (free slots : List ℕ) (t : IsTable held free slots) whe
   pub unseen : (l i : ℕ) → IsSlotOf l i → length slots ≤ i → atom_at (entries_from 1 (held_in held slots)) l ≡ None
   unseen l i at h = seen l i at ∙ ap (seen_in held) (slice_get_past slots i h)
 
+  -- a label that has an atom has a slot
+  pub slot_given : (l i : ℕ) (a : Atom ℕ) → IsSlotOf l i → atom_at (entries_from 1 (held_in held slots)) l ≡ Some a → i < length slots
+  slot_given l i a at is = elim (cases_lt i (length slots)) [
+    | inl lt ↦ lt
+    | inr past ↦ absurd (let none = unseen l i at past in cc)
+  ]
+
 -- ---- how many atoms there are, block by block
 
 one_here : (label k : ℕ) → label / 64 ≡ k → one_in label k ≡ 1

@@ -213,6 +213,15 @@ impl<A: Allocator + Copy> Atoms<A> {
         atom_of_slot(&self.held, *slot)
     }
 
+    /// The atom under a label that is live.
+    #[inline(always)]
+    pub fn atom_of(&self, label: Label) -> &Atom<A>
+        requires { (atom : Atom ℕ) × (atom_at self.now.entries label ≡ Some atom) }
+        ensures { atom_at self.now.entries label ≡ Some result.now }
+    {
+        &self.held[self.slots[index_of(label)] as usize]
+    }
+
     /// Takes the atom under a label out. Takes no memory.
     pub fn remove(&mut self, label: Label) -> Option<Atom<A>>
         ensures value { result ≡ atom_at self.old.entries label }

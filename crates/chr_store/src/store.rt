@@ -238,6 +238,15 @@ impl<A: Allocator + Copy> Store<A> {
         self.atoms.get(label)
     }
 
+    /// The atom under a label that is live.
+    #[inline(always)]
+    pub(crate) fn atom_of(&self, label: Label) -> &Atom<A>
+        requires { (atom : Atom ℕ) × (atom_at self.now.entries label ≡ Some atom) }
+        ensures { atom_at self.now.entries label ≡ Some result.now }
+    {
+        self.atoms.atom_of(label)
+    }
+
     /// Takes a constraint out of the store.
     pub fn remove(&mut self, label: Label) -> Option<Atom<A>>
         ensures value { result ≡ atom_at self.old.entries label }

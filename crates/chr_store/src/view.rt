@@ -1,6 +1,7 @@
 //! A store as the searches for partners of a label see it.
-ghost use Rattle.std.specs.Prelude.{◌≡◌, ◌≢◌, ℕ, ◌≤◌, Option, None, IfSome, IsSome};
+ghost use Rattle.std.specs.Prelude.{◌≡◌, ◌≢◌, ℕ, ◌≤◌, Option, Some, None, IfSome, IsSome};
 ghost use Rattle.std.specs.Option.{option_copied};
+ghost use Rattle.chr_value.specs.Atoms.{Atom};
 ghost use Rattle.chr_value.specs.Stores.{atom_at};
 ghost use Rattle.chr_index.specs.Buckets.{IsLeastBetween};
 ghost use Rattle.chr_store.specs.Keys.{key_of, IsLeastMatch};
@@ -95,13 +96,14 @@ impl<'s, A: Allocator + Copy> View<'s, A> {
         }
     }
 
-    /// The atom under a label other than the active one.
+    /// The atom under a label that is live, and isn't the active one.
     #[inline(always)]
-    pub fn older(&self, label: Label) -> Option<&'s Atom<A>>
-        requires { label ≢ self.now.active }
-        ensures { option_copied result ≡ atom_at self.now.store.entries label }
+    pub fn older(&self, label: Label) -> &'s Atom<A>
+        requires older { label ≢ self.now.active }
+        requires live { (atom : Atom ℕ) × (atom_at self.now.store.entries label ≡ Some atom) }
+        ensures { atom_at self.now.store.entries label ≡ Some result.now }
     {
-        self.store.get(label)
+        self.store.atom_of(label)
     }
 
     /// The least label over `after` that is older than the active one and whose atom has the predicate and, where `key` is a
