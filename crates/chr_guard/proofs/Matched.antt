@@ -1,7 +1,7 @@
 -- Heads, atoms and the bindings that make them equal.
 use Rattle.std.proofs.lemmas.List.Elements.{All-from_recursion, recursion_from_All}
 use Rattle.std.proofs.lemmas.Option.{get_or_from_slice_get, slice_get_within}
-use Rattle.std.proofs.Common.{get_or-append-add, ◌≡◌, ◌↔◌, ℕ, zero, suc, ◌≤◌, ◌+◌, ◌<◌, Bool, true, false, List, [], ◌∷◌, ◌++◌, length, take, drop, map, replicate, get_or, Option, Some, None, IsSome, refl, sym, subst, ap, ap₂, ◌∙◌, arith, slice_get, slice_set, option_map, ℤ, pos, inl, inr, subst₂, nat_lt, rules}
+use Rattle.std.proofs.Common.{get_or-append-add, ◌≡◌, ◌↔◌, ℕ, zero, suc, ◌≤◌, ◌+◌, ◌<◌, Bool, true, false, List, [], ◌∷◌, ◌++◌, length, take, drop, map, replicate, get_or, Option, Some, None, IsSome, refl, sym, subst, ap, ap₂, ◌∙◌, arith, slice_get, slice_set, option_map, MatchOption, ℤ, pos, inl, inr, subst₂, nat_lt, rules}
 use Rattle.std.specs.List.{AllByRecursion, list_all}
 use Rattle.std.proofs.lemmas.List.{get_or_append_left, length-replicate, length-append, map-append, length-map, take_at, drop_at, drop_more, take_all, take_more, take-append-drop, append-nil, set-get_or}
 use Rattle.std.proofs.lemmas.Simd.{map-map}
@@ -12,13 +12,14 @@ use Rattle.chr_rule.specs.declared.term.Term as code
 use Rattle.chr_rule.proofs.Levels.{argument-Var, argument-Given}
 use Rattle.chr_rule.specs.Parts.{argument}
 use Rattle.chr_rule.specs.Rules.{Term, Var, Given, Open, RuleAtom, Simpagation, head_at, Expression, BodyItem, Is, Add}
-use Rattle.chr_rule.specs.Scope.{argument_known, expression_known, IsRule, known_after_heads, known_after_body}
-use Rattle.chr_guard.specs.Values.{Valuation, term_under, value_of}
-use Rattle.chr_guard.specs.Bindings.{bound_at, Extends, Narrows, NoneUnder, NarrowsIf}
+use Rattle.chr_rule.specs.Scope.{argument_known, IsRule, known_after_heads, known_after_body}
+use Rattle.chr_guard.specs.Values.{Valuation, term_under, value_of, value_under}
+use Rattle.chr_guard.specs.Bindings.{bound_at, Extends, Narrows, NoneUnder, NarrowsIf, IsReady}
 use Rattle.chr_guard.specs.Instances.{atom_under, made_under, AreMadeUnder, IsRight, added}
-use Rattle.chr_guard.specs.Matching.{IsAtHead, AreAtHeads, HeadsAre, IsFit, IsOfHeads, Completes, IsBody, IsCompleted, with_term, TakesValue, TakeValues}
+use Rattle.chr_guard.specs.Matching.{IsAtHead, AreAtHeads, HeadsAre, IsFit, IsOfHeads, Completes, IsBody, BindsIf, IsCompleted, with_term, TakesValue, TakeValues}
 use Rattle.chr_guard.proofs.Scoped.{scoped, IsPlaced, heads_below, body_below, args_later, is_known, add_known}
-use Rattle.chr_guard.proofs.Under.{atom_is, heads_bound, value_grows, made_grows, atoms_append, none_made, added_append}
+use Rattle.chr_guard.proofs.Under.{atom_is, heads_bound, value_grows, made_grows, atoms_append, none_made, added_append, none_is_none, some_is_some, some_atom}
+use Rattle.chr_guard.proofs.Valued.{AreBound, value_bound, terms_bound, known_bound, known_terms}
 use Rattle.chr_guard.proofs.Bindings.{narrows_both, narrows_as, none_after, free_extends, extends_itself, narrows_nothing, others_stay, bound_settled, stays_bound, told_new, told_bound}
 use Rattle.chr_guard.proofs.Steps.{all_more, all_at, halves, SoFar, map_read, known_read, read_more, read_there}
 use Rattle.std.proofs.lemmas.Bool.{cases_lt, cases_eq}
@@ -264,9 +265,6 @@ module _ (rule : Simpagation ℕ) (i x : ℕ) (e : Expression) (old mid : List (
   pub is_place : x < length mid
   is_place = is_known done.known rule.variables x e (drop (i + 1) rule.body) turn (λ same _ later. let le : suc done.known ≤ rule.variables = body_below (suc done.known) rule.variables (drop (i + 1) rule.body) later in let len : rule.variables ≤ length mid = done.places in omega arith)
 
-  pub is_below : expression_known x e ≡ true
-  is_below = is_known done.known rule.variables x e (drop (i + 1) rule.body) turn (λ same known _. subst (λ n. expression_known n e ≡ true) (sym same) known)
-
   parts : (v : Valuation) → Completes rule old v → Extends v mid × IsRight v (Is x e)
   parts v c = let two = all_at (IsRight v) rule.body i (Is x e) within there c.right in ((done.narrows.exactly v).1 (c.extends, two.0), two.1)
 
@@ -345,6 +343,46 @@ module _ (rule : Simpagation ℕ) (i : ℕ) (s : RuleAtom ℕ) (old mid : List (
         made_is = subst (λ ss. AreMadeUnder (bound_at mid) ss (done.made ++ a ∷ [])) (sym (added_next rule.body i (Add s) within there))
             (atoms_append (made_under (bound_at mid)) (added (take i rule.body)) (s ∷ []) done.made (a ∷ []) done.made_is (ap (λ o. o ∷ []) is));
       })
+
+-- a member of the body, whichever it is
+module _ (rule : Simpagation ℕ) (i : ℕ) (old mid : List (Option (Value ℕ))) (within : i < length rule.body) (done : Completing rule i old mid) where
+  pub item_place : (m : BodyItem ℕ) → m ≡ get_or rule.body i m → (x : ℕ) (e : Expression) → m ≡ Is x e → x < length mid
+  item_place m there x e is = is_place rule i x e old mid within (subst (λ k. k ≡ get_or rule.body i k) is there) done
+
+  known_here : ((x : ℕ) → IsOfHeads rule x → IsSome (bound_at old x)) → AreBound done.known mid
+  known_here heads y l = elim (cases_lt y done.first) [
+    | inl below ↦ subst (λ o. IsSome o) (sym (done.heads y below)) (heads y (done.first, done.of_heads, below))
+    | inr from ↦ done.bound y from l
+  ]
+
+  pub item_ready : (m : BodyItem ℕ) → m ≡ get_or rule.body i m → ((x : ℕ) → IsOfHeads rule x → IsSome (bound_at old x)) → IsReady mid m
+  item_ready (Is x e) there heads = is_known done.known rule.variables x e (drop (i + 1) rule.body) (turn rule i x e old mid within there done) (λ _ k _. known_bound mid done.known e (known_here heads) k)
+  item_ready (Add s) there heads = add_known done.known rule.variables s (drop (i + 1) rule.body) (add_turn rule i s old mid within there done) (λ k _. known_terms mid done.known s.args (known_here heads) k)
+
+  pub item_unready : (m : BodyItem ℕ) → m ≡ get_or rule.body i m → (IsReady mid m → ⊥) → (made : List (Atom ℕ)) → IsBody rule old made → ⊥
+  item_unready (Is x e) there not made b =
+      is_valueless rule i x e old mid within there done (none_is_none (value_of (bound_at mid) e) (λ some. (let n = some_is_some (value_of (bound_at mid) e) some in not (value_bound mid e n.0 n.1)))) made b
+  item_unready (Add s) there not made b =
+      add_valueless rule i s old mid within there done (none_is_none (made_under (bound_at mid) s) (λ some. not (terms_bound mid s.args ((some_atom (value_under (bound_at mid)) s).1 some)))) made b
+
+  pub item_more : (m : BodyItem ℕ) → m ≡ get_or rule.body i m → (new : List (Option (Value ℕ))) → BindsIf m true mid new → Completing rule (i + 1) old new
+  item_more (Is x e) there new binds =
+      elim (value_of (bound_at mid) e) as (λ o. value_of (bound_at mid) e ≡ o → MatchOption o (true ≡ false) (λ n. Narrows (λ v. v x ≡ Some (Int n)) mid new) → Completing rule (i + 1) old new) [
+        | Some n ↦ λ val narrows. is_more rule i x e old mid within there done n new val narrows
+        | None ↦ λ val no. absurd (cc)
+      ] refl binds
+  item_more (Add s) there new binds =
+      let a = some_is_some (made_under (bound_at mid) s) (binds.0.0 refl) in
+      subst (Completing rule (i + 1) old) (sym binds.1) (add_more rule i s old mid within there done a.0 a.1)
+
+  pub item_stop : (m : BodyItem ℕ) → m ≡ get_or rule.body i m → (new : List (Option (Value ℕ))) → BindsIf m false mid new → (made : List (Atom ℕ)) → IsBody rule old made → ⊥
+  item_stop (Is x e) there new binds made b =
+      elim (value_of (bound_at mid) e) as (λ o. value_of (bound_at mid) e ≡ o → MatchOption o (false ≡ false) (λ n. NoneUnder (λ v. v x ≡ Some (Int n)) mid) → ⊥) [
+        | Some n ↦ λ val none. is_otherwise rule i x e old mid within there done n val none made b
+        | None ↦ λ val no. is_valueless rule i x e old mid within there done val made b
+      ] refl binds
+  item_stop (Add s) there new binds made b =
+      add_valueless rule i s old mid within there done (none_is_none (made_under (bound_at mid) s) (λ some. (let z : false ≡ true = binds.0.1 some in absurd (cc)))) made b
 
 pub completing_end : (rule : Simpagation ℕ) (i : ℕ) (old new : List (Option (Value ℕ))) → length rule.body ≤ i → Completing rule i old new → IsCompleted rule old new
 completing_end rule i old new past done = record {

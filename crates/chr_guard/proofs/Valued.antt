@@ -1,12 +1,18 @@
 -- Expressions and comparisons whose variables are bound.
-use Rattle.std.proofs.Common.{◌≡◌, ℕ, ℤ, true, List, Option, Some, None, IsSome, refl}
+use Rattle.std.proofs.Common.{◌≡◌, ◌<◌, ℕ, ℤ, true, List, [], ◌∷◌, Option, Some, None, IsSome, refl, sym, ap, subst, ◌∙◌}
+use Rattle.std.specs.List.{AllByRecursion, list_all}
 use Rattle.std.proofs.lemmas.Bool.{and_parts, ltb-true}
 use Rattle.chr_value.specs.Atoms.{Value}
-use Rattle.chr_rule.specs.Rules.{Expression, Number, Variable, Operation, Comparison, Compared, Same, Differ}
-use Rattle.chr_rule.specs.Scope.{expression_known, test_known}
-use Rattle.chr_guard.specs.Values.{value_of, number_in, computed, compares, Holds}
-use Rattle.chr_guard.specs.Bindings.{bound_at, AreBound, AllBound, SidesBound}
-use Rattle.chr_guard.proofs.Under.{both_parts}
+use Rattle.chr_rule.specs.Rules.{Term, Expression, Number, Variable, Operation, Comparison, Compared, Same, Differ}
+use Rattle.chr_rule.specs.Scope.{argument_known, expression_known, test_known}
+use Rattle.chr_guard.specs.Values.{value_of, number_in, computed, compares, term_under, value_under, Holds}
+use Rattle.chr_guard.specs.Bindings.{bound_at, AllBound, IsBound, SidesBound}
+use Rattle.chr_guard.specs.Instances.{all_values}
+use Rattle.chr_guard.proofs.Under.{both_parts, limited, some_is_some}
+
+-- the first n variables are bound
+abbrev pub AreBound : ℕ → List (Option (Value ℕ)) → Type 0
+AreBound n binding = (x : ℕ) → x < n → IsSome (bound_at binding x)
 
 -- an expression that has a value
 pub value_bound : (binding : List (Option (Value ℕ))) (e : Expression) (n : ℤ) → value_of (bound_at binding) e ≡ Some n → AllBound binding e
@@ -15,6 +21,18 @@ value_bound binding (Variable x) n h = elim (bound_at binding x) as (λ o. numbe
 value_bound binding (Operation o a b) n h =
     let p = both_parts (computed o) (value_of (bound_at binding) a) (value_of (bound_at binding) b) n h in
     (value_bound binding a p.0 p.2, value_bound binding b p.1 p.3)
+
+-- terms that have values
+term_bound : (binding : List (Option (Value ℕ))) (t : Term ℕ) (a : Value ℕ) → value_under (bound_at binding) t ≡ Some a → IsBound binding t
+term_bound binding t a e x is = subst (λ o. IsSome o) (sym (subst (λ u. term_under (bound_at binding) u ≡ Some a) is (limited (term_under (bound_at binding) t) a e).0)) refl
+
+pub terms_bound : (binding : List (Option (Value ℕ))) (ts : List (Term ℕ)) → IsSome (all_values (value_under (bound_at binding)) ts) → AllByRecursion (IsBound binding) ts
+terms_bound binding [] some = tt
+terms_bound binding (t ∷ ts) some =
+    let value = value_under (bound_at binding) in
+    let vs = some_is_some (all_values value (t ∷ ts)) some in
+    let p = both_parts (λ x xs. Some (x ∷ xs)) (value t) (all_values value ts) vs.0 vs.1 in
+    (term_bound binding t p.0 p.2, terms_bound binding ts (subst (λ o. IsSome o) (sym p.3) refl))
 
 -- a comparison that holds
 pub holds_bound : (binding : List (Option (Value ℕ))) (t : Comparison ℕ) → Holds (bound_at binding) t → SidesBound binding t
@@ -31,6 +49,13 @@ known_bound binding n (Variable x) are k = are x (ltb-true x n k)
 known_bound binding n (Operation o a b) are k =
     let two = and_parts (expression_known n a) (expression_known n b) k in
     (known_bound binding n a are two.0, known_bound binding n b are two.1)
+
+-- terms among whose variables only the first are
+pub known_terms : (binding : List (Option (Value ℕ))) (n : ℕ) (ts : List (Term ℕ)) → AreBound n binding → list_all (argument_known n) ts ≡ true → AllByRecursion (IsBound binding) ts
+known_terms binding n [] are k = tt
+known_terms binding n (t ∷ ts) are k =
+    let two = and_parts (argument_known n t) (list_all (argument_known n) ts) k in
+    (λ x is. are x (ltb-true x n (ap (argument_known n) (sym is) ∙ two.0)), known_terms binding n ts are two.1)
 
 pub known_sides : (binding : List (Option (Value ℕ))) (n : ℕ) (t : Comparison ℕ) → AreBound n binding → test_known n t ≡ true → SidesBound binding t
 known_sides binding n (Compared r a b) are k =

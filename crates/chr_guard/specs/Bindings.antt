@@ -1,10 +1,11 @@
 -- What the variables of a rule are bound to: a list in the order of their numbers.
-use Rattle.std.specs.Prelude.{◌≡◌, ℕ, zero, suc, Bool, true, false, ◌<◌, ◌≤◌, ◌↔◌, List, [], ◌∷◌, length, Option, Some, None, IsSome, IfSome, slice_index_or, slice_get}
+use Rattle.std.specs.Prelude.{◌≡◌, ℕ, zero, suc, Bool, true, false, ◌≤◌, ◌↔◌, List, [], ◌∷◌, length, Option, Some, None, IsSome, IfSome, slice_index_or, slice_get}
+use Rattle.std.specs.List.{AllByRecursion}
 use Rattle.std.specs.Int.{bit_at}
 use Rattle.chr_value.specs.Atoms.{Value, said}
 use Rattle.chr_value.specs.Limits.{IsWithin}
 use Rattle.chr_value.specs.declared.value.ValueRef.{ValueRef}
-use Rattle.chr_rule.specs.Rules.{Expression, Number, Variable, Operation, Comparison, Compared, Same, Differ}
+use Rattle.chr_rule.specs.Rules.{Term, Var, Expression, Number, Variable, Operation, Comparison, Compared, Same, Differ, BodyItem, Is, Add}
 use Rattle.chr_guard.specs.declared.binding.Known.{Known}
 use Rattle.chr_guard.specs.Values.{Valuation}
 
@@ -58,15 +59,20 @@ pub record Keeps (old new : List (Option (Value ℕ))) : Type 0 where
 abbrev pub AreKnown : Known → List (Option (Value ℕ)) → Type 0
 AreKnown known binding = (x : ℕ) → (bit_at known.bits x ≡ 1) ↔ IsSome (bound_at binding x)
 
--- the first n variables are bound
-abbrev pub AreBound : ℕ → List (Option (Value ℕ)) → Type 0
-AreBound n binding = (x : ℕ) → x < n → IsSome (bound_at binding x)
-
 -- each variable of an expression is bound
 abbrev pub AllBound : List (Option (Value ℕ)) → Expression → Type 0
 AllBound binding (Number n) = Unit {0}
 AllBound binding (Variable x) = IsSome (bound_at binding x)
 AllBound binding (Operation o a b) = AllBound binding a × AllBound binding b
+
+-- a term is bound, if it is a variable
+abbrev pub IsBound : List (Option (Value ℕ)) → Term ℕ → Type 0
+IsBound binding t = (x : ℕ) → t ≡ Var x → IsSome (bound_at binding x)
+
+-- all variables of an expression are bound, and each argument of a constraint that is a variable
+abbrev pub IsReady : List (Option (Value ℕ)) → BodyItem ℕ → Type 0
+IsReady binding (Is x e) = AllBound binding e
+IsReady binding (Add s) = AllByRecursion (IsBound binding) s.args
 
 -- each variable of a comparison is bound, if it is one of numbers
 abbrev pub SidesBound : List (Option (Value ℕ)) → Comparison ℕ → Type 0

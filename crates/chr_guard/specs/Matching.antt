@@ -1,14 +1,14 @@
 -- When a rule's heads are atoms, and which body it then adds.
 use Rattle.std.specs.Prelude.{◌≡◌, ◌↔◌, ◌<◌, ℕ, ◌++◌, Bool, true, false, List, [], ◌∷◌, length}
-use Rattle.std.specs.Prelude.{Option, Some, None, ◌⊎◌, slice_set}
+use Rattle.std.specs.Prelude.{Option, Some, None, ◌⊎◌, slice_set, IsTrue, IsSome, MatchOption}
 use Rattle.std.specs.List.{AllByRecursion}
 use Rattle.std.specs.Option.{option_map}
-use Rattle.chr_value.specs.Atoms.{Value, Atom}
-use Rattle.chr_rule.specs.Rules.{Term, Var, Given, Open, Simpagation, head_at}
+use Rattle.chr_value.specs.Atoms.{Value, Atom, Int}
+use Rattle.chr_rule.specs.Rules.{Term, Var, Given, Open, Simpagation, head_at, BodyItem, Is, Add}
 use Rattle.chr_rule.specs.Scope.{known_after_heads}
-use Rattle.chr_guard.specs.Values.{Valuation}
-use Rattle.chr_guard.specs.Bindings.{bound_at, Extends, Narrows}
-use Rattle.chr_guard.specs.Instances.{atom_under, AreUnder, AreMadeUnder, IsRight, added, IsInstance, NoInstance}
+use Rattle.chr_guard.specs.Values.{Valuation, value_of}
+use Rattle.chr_guard.specs.Bindings.{bound_at, Extends, Narrows, NarrowsIf}
+use Rattle.chr_guard.specs.Instances.{atom_under, made_under, AreUnder, AreMadeUnder, IsRight, added, IsInstance, NoInstance}
 
 -- a binding once a term stands for a value
 abbrev pub with_term : List (Option (Value ℕ)) → Term ℕ → Value ℕ → List (Option (Value ℕ))
@@ -66,6 +66,15 @@ pub record IsBody (rule : Simpagation ℕ) (binding : List (Option (Value ℕ)))
   pub valuation : Valuation
   pub completes : Completes rule binding valuation
   pub body_is : AreMadeUnder valuation (added rule.body) body
+
+-- Where the answer is yes, the variable left of an `is` is bound to the expression's value, and the
+-- arguments of a constraint have values. Where it is no, it is bound to another or there is no value.
+abbrev pub BindsIf : BodyItem ℕ → Bool → List (Option (Value ℕ)) → List (Option (Value ℕ)) → Type 0
+BindsIf (Is x e) told old new =
+    MatchOption (value_of (bound_at old) e) (told ≡ false)
+    (λ n. NarrowsIf (λ v. v x ≡ Some (Int n)) told old new)
+BindsIf (Add s) told old new =
+    (IsTrue told ↔ IsSome (made_under (bound_at old) s)) × (new ≡ old)
 
 -- The new binding is the old one with the values of the variables left of an `is`, and under it
 -- the body's arguments have values.

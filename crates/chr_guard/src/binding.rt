@@ -4,7 +4,7 @@ ghost use Rattle.std.specs.Int.{bit_at};
 ghost use Rattle.std.specs.Option.{option_map};
 ghost use Rattle.chr_value.specs.Atoms.{said, Int, Value};
 ghost use Rattle.chr_value.specs.Limits.{IsWithin};
-ghost use Rattle.chr_guard.specs.Bindings.{bound_at, NarrowsIf, Keeps, AreKnown, AreBound};
+ghost use Rattle.chr_guard.specs.Bindings.{bound_at, NarrowsIf, Keeps, AreKnown};
 
 use arrayvec::ArrayVec;
 use chr_rule::MOST_VARIABLES;
@@ -131,21 +131,20 @@ impl<'v, A: Allocator + Copy> Binding<'v, A> {
         Some(self.bound(variable))
     }
 
-    /// Whether a variable is bound. What it is bound to is within the limits of values.
+    /// Whether a variable is bound.
     #[inline(always)]
     pub(crate) fn is_bound(&self, variable: u8) -> bool
-        ensures bound { IsTrue result ↔ IsSome (bound_at self.now variable) }
-        ensures limits { IfSome (bound_at self.now variable) (λ a. IsWithin a) }
+        ensures { IsTrue result ↔ IsSome (bound_at self.now variable) }
     {
         usize::from(variable) < self.variables && self.known.has(variable)
     }
 
-    /// How many of the first variables are bound, without a free one among them.
+    /// What a variable is bound to is within the limits of values.
     #[inline(always)]
-    pub(crate) fn bound_first(&self) -> u8
-        ensures { AreBound result self.now }
+    pub(crate) fn are_within(&self)
+        ensures { (x : ℕ) → IfSome (bound_at self.now x) (λ a. IsWithin a) }
     {
-        self.known.bits.trailing_ones() as u8
+        let _ = &self.bound;
     }
 
     /// What a variable is bound to that is bound.

@@ -1,17 +1,17 @@
 //! The body of a rule under a binding.
-ghost use Rattle.std.specs.Prelude.{◌≡◌, ◌≤◌, [], false, List, ℕ, Some, None, map, length, IsTrue, IfOk, MatchOption};
+ghost use Rattle.std.specs.Prelude.{◌≡◌, ◌↔◌, ◌<◌, ◌≤◌, [], true, false, List, ℕ, Some, None, map, length, IsTrue, IsSome, IfOk, MatchOption};
 ghost use Rattle.std.specs.Option.{option_map};
 ghost use Rattle.chr_value.specs.Atoms.{Atom, args_of, ground, grounds};
-ghost use Rattle.chr_rule.specs.Parts.{argument, shape};
-ghost use Rattle.chr_rule.specs.Rules.{terms_of};
+ghost use Rattle.chr_rule.specs.Parts.{argument, member, shape};
+ghost use Rattle.chr_rule.specs.Rules.{terms_of, Expression, Is};
 ghost use Rattle.chr_guard.specs.Values.{term_under, terms_under, value_under};
-ghost use Rattle.chr_guard.specs.Bindings.{Keeps, bound_at};
+ghost use Rattle.chr_guard.specs.Bindings.{Keeps, IsReady, bound_at};
 ghost use Rattle.chr_guard.specs.Instances.{made_under, AreMadeUnder, added};
-ghost use Rattle.chr_guard.specs.Matching.{CompletedIf, IsBody};
+ghost use Rattle.chr_guard.specs.Matching.{BindsIf, CompletedIf, IsBody, IsOfHeads};
 
 use crate::binding::Binding;
 use crate::terms::Plain;
-use crate::values::value_below;
+use crate::values::{are_bound, bound_value};
 use arrayvec::ArrayVec;
 use chr_rule::{BodyItem, Rule, RuleAtom, Term};
 use chr_value::{Atom, Comp, Value};
@@ -126,31 +126,70 @@ pub fn make_atom<A: Allocator + Copy>(
     Ok(Some(atom))
 }
 
+/// Whether all variables of an expression are bound, or each argument of a constraint that is a variable.
+fn is_ready<A: Allocator + Copy>(item: &BodyItem<A>, binding: &Binding<'_, A>) -> bool
+    ensures { IsTrue result ↔ IsReady binding.now (member item.now) }
+{
+    match item {
+        BodyItem::Is(_, expr) => are_bound(expr, binding),
+        BodyItem::Add(pattern) => binding.are_bound_terms(&pattern.terms),
+    }
+}
+
+/// Binds the variable left of an `is` to the value. False where there is none, where that of an argument of a constraint is
+/// none, and where the variable is bound to another.
+#[inline(always)]
+fn bind_item<A: Allocator + Copy>(item: &BodyItem<A>, binding: &mut Binding<'_, A>) -> bool
+    requires place { (x : ℕ) (e : Expression) → member item.now ≡ Is x e → x < length binding.old }
+    requires ready { IsReady binding.old (member item.now) }
+    ensures binds { BindsIf (member item.now) result binding.old binding.new }
+    ensures keeps { Keeps binding.old binding.new }
+{
+    match item {
+        BodyItem::Is(x, expr) => match bound_value(expr, binding) {
+            Some(n) => binding.bind_number(*x, n),
+            None => false,
+        },
+        BodyItem::Add(pattern) => binding.have_bound_values(pattern),
+    }
+}
+
 /// Binds the variables left of `is` in a rule's body to the values. False only where some `is` or some argument has no
-/// value, or where the variable of an `is` is bound to another.
-pub(crate) fn bind_body<A: Allocator + Copy>(rule: &Rule<A>, binding: &mut Binding<'_, A>) -> bool
-    requires { rule.now.variables ≤ length binding.old }
+/// value, or where the variable of an `is` is bound to another. Where the variables of the heads are bound, none is asked
+/// for: each other is bound by its turn.
+#[inline(always)]
+fn bind_body<A: Allocator + Copy>(
+    rule: &Rule<A>,
+    binding: &mut Binding<'_, A>,
+    heads_are_bound: bool,
+) -> bool
+    requires places { rule.now.variables ≤ length binding.old }
+    requires heads { heads_are_bound ≡ true → (x : ℕ) → IsOfHeads rule.now x → IsSome (bound_at binding.old x) }
     ensures completed { CompletedIf rule.now result binding.old binding.new }
     ensures keeps { Keeps binding.old binding.new }
 {
     for item in rule.body() {
-        match item {
-            BodyItem::Is(x, expr) => {
-                let Some(n) = value_below(expr, binding, *x) else {
-                    return false;
-                };
-                if !binding.bind_number(*x, n) {
-                    return false;
-                }
-            }
-            BodyItem::Add(pattern) => {
-                if !binding.has_values(pattern) {
-                    return false;
-                }
-            }
+        if !heads_are_bound && !is_ready(item, binding) {
+            return false;
+        }
+        if !bind_item(item, binding) {
+            return false;
         }
     }
     true
+}
+
+/// The same where the variables of the rule's heads are bound.
+pub(crate) fn complete_body<A: Allocator + Copy>(
+    rule: &Rule<A>,
+    binding: &mut Binding<'_, A>,
+) -> bool
+    requires places { rule.now.variables ≤ length binding.old }
+    requires heads { (x : ℕ) → IsOfHeads rule.now x → IsSome (bound_at binding.old x) }
+    ensures completed { CompletedIf rule.now result binding.old binding.new }
+    ensures keeps { Keeps binding.old binding.new }
+{
+    bind_body(rule, binding, true)
 }
 
 /// The atoms that a rule's body adds, in written order, under a binding of the rule's variables. None only where an
@@ -189,7 +228,7 @@ pub fn body<A: Allocator + Copy>(
     ensures { IfOk result (λ made. MatchOption made ((made : List (Atom ℕ)) → IsBody rule.now binding.now made → ⊥) (λ made. IsBody rule.now binding.now made.items)) }
 {
     let mut all = binding.widened(rule.variables());
-    if !bind_body(rule, &mut all) {
+    if !bind_body(rule, &mut all, false) {
         return Ok(None);
     }
     added_atoms(alloc, rule, &all)

@@ -6,7 +6,7 @@ ghost use Rattle.chr_guard.specs.Instances.{IsInstance, NoInstance};
 ghost use Rattle.chr_guard.specs.Matching.{HeadsAre, IsFit, IsInstanceIf, IsInstanceUnder};
 
 use crate::binding::Binding;
-use crate::body::{Body, added_atoms, bind_body};
+use crate::body::{Body, added_atoms, complete_body};
 use crate::matching::fit_all;
 use crate::values::guard_holds;
 use chr_rule::Rule;
@@ -24,7 +24,7 @@ pub fn becomes_instance<A: Allocator + Copy>(rule: &Rule<A>, binding: &mut Bindi
     if !guard_holds(rule, binding) {
         return false;
     }
-    bind_body(rule, binding)
+    complete_body(rule, binding)
 }
 
 /// The one binding of all variables of a rule's instance, from that of its heads' variables. None where the heads' atoms

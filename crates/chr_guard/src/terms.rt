@@ -1,11 +1,12 @@
 //! The values of terms under a binding, compared and counted without being made.
 ghost use Rattle.std.specs.Prelude.{◌≡◌, ◌≢◌, ◌↔◌, IsTrue, IsSome, IfSome, Some, map};
+ghost use Rattle.std.specs.List.{AllByRecursion};
 ghost use Rattle.std.specs.Option.{option_map};
 ghost use Rattle.chr_value.specs.Atoms.{ground, said};
 ghost use Rattle.chr_rule.specs.Parts.{argument, shape};
 ghost use Rattle.chr_rule.specs.Rules.{terms_of};
 ghost use Rattle.chr_guard.specs.Values.{key_under, term_under, terms_under, value_under, WhereBoth};
-ghost use Rattle.chr_guard.specs.Bindings.{bound_at};
+ghost use Rattle.chr_guard.specs.Bindings.{bound_at, IsBound};
 ghost use Rattle.chr_guard.specs.Instances.{made_under};
 ghost use Rattle.chr_guard.specs.Terms.{plain_value, left_under, left_under_all};
 
@@ -107,25 +108,59 @@ impl<'v, A: Allocator + Copy> Binding<'v, A> {
         self.left(term, MOST_DEPTH, MOST_SIZE).is_some()
     }
 
-    /// Whether a term has a value within the limits. What a variable is bound to always is within them.
+    /// Whether a term is bound, if it is a variable.
     #[inline(always)]
-    pub(crate) fn has_value(&self, term: &Term<A>) -> bool
-        ensures { IsTrue result ↔ IsSome (value_under (bound_at self.now) (argument term.now)) }
+    fn is_bound_term(&self, term: &Term<A>) -> bool
+        ensures { IsTrue result ↔ IsBound self.now (argument term.now) }
     {
         match term {
             Term::Var(x) => self.is_bound(*x),
-            Term::Given(Value::Int(_)) | Term::Given(Value::Sym(_)) => true,
+            _ => true,
+        }
+    }
+
+    /// Whether each term that is a variable is bound.
+    pub(crate) fn are_bound_terms(&self, terms: &[Term<A>]) -> bool
+        ensures { IsTrue result ↔ AllByRecursion (IsBound self.now) (map argument terms.now) }
+    {
+        for term in terms {
+            if !self.is_bound_term(term) {
+                return false;
+            }
+        }
+        true
+    }
+
+    /// Whether a term that is no free variable has a value within the limits. What a variable is bound to always is within
+    /// them.
+    #[inline(always)]
+    pub(crate) fn has_bound_value(&self, term: &Term<A>) -> bool
+        requires { IsBound self.now (argument term.now) }
+        ensures { IsTrue result ↔ IsSome (value_under (bound_at self.now) (argument term.now)) }
+    {
+        self.are_within();
+        match term {
+            Term::Var(_) | Term::Given(Value::Int(_)) | Term::Given(Value::Sym(_)) => true,
             Term::Given(Value::Comp(_)) | Term::Open(_) => self.is_within(term),
         }
     }
 
-    /// Whether each argument of a constraint has a value within the limits.
+    /// Whether a term has a value within the limits.
     #[inline(always)]
-    pub(crate) fn has_values(&self, pattern: &RuleAtom<A>) -> bool
+    pub(crate) fn has_value(&self, term: &Term<A>) -> bool
+        ensures { IsTrue result ↔ IsSome (value_under (bound_at self.now) (argument term.now)) }
+    {
+        self.is_bound_term(term) && self.has_bound_value(term)
+    }
+
+    /// Whether each argument of a constraint has a value within the limits, where none is a free variable.
+    #[inline(always)]
+    pub(crate) fn have_bound_values(&self, pattern: &RuleAtom<A>) -> bool
+        requires { AllByRecursion (IsBound self.now) (shape pattern.now).args }
         ensures { IsTrue result ↔ IsSome (made_under (bound_at self.now) (shape pattern.now)) }
     {
         for term in &pattern.terms {
-            if !self.has_value(term) {
+            if !self.has_bound_value(term) {
                 return false;
             }
         }

@@ -1,9 +1,9 @@
 //! The value of an expression, and when a guard holds.
-ghost use Rattle.std.specs.Prelude.{◌≡◌, ◌↔◌, ℕ, true, IsTrue, IsSome};
+ghost use Rattle.std.specs.Prelude.{◌≡◌, ◌↔◌, ℕ, IsTrue, IsSome};
 ghost use Rattle.std.specs.List.{AllByRecursion};
 ghost use Rattle.chr_rule.specs.Parts.{expression, comparison};
 ghost use Rattle.chr_rule.specs.Rules.{Compared};
-ghost use Rattle.chr_rule.specs.Scope.{expression_known, IsRule};
+ghost use Rattle.chr_rule.specs.Scope.{IsRule};
 ghost use Rattle.chr_guard.specs.Values.{both, computed, value_of, Holds};
 ghost use Rattle.chr_guard.specs.Bindings.{bound_at, AllBound, SidesBound};
 ghost use Rattle.chr_guard.specs.Matching.{IsOfHeads};
@@ -26,7 +26,7 @@ pub fn value<A: Allocator + Copy>(expr: &Expr<A>, binding: &Binding<'_, A>) -> O
 }
 
 /// Whether each variable of an expression is bound.
-fn are_bound<A: Allocator + Copy>(expr: &Expr<A>, binding: &Binding<'_, A>) -> bool
+pub(crate) fn are_bound<A: Allocator + Copy>(expr: &Expr<A>, binding: &Binding<'_, A>) -> bool
     ensures { IsTrue result ↔ AllBound binding.now (expression expr.now) }
 {
     match expr {
@@ -36,25 +36,12 @@ fn are_bound<A: Allocator + Copy>(expr: &Expr<A>, binding: &Binding<'_, A>) -> b
     }
 }
 
-/// The value of an expression whose variables are below this one. Where all below it are bound, none is looked at alone.
-#[inline(always)]
-pub(crate) fn value_below<A: Allocator + Copy>(
-    expr: &Expr<A>,
-    binding: &Binding<'_, A>,
-    variable: u8,
-) -> Option<i64>
-    requires { expression_known variable (expression expr.now) ≡ true }
-    ensures { result ≡ value_of (bound_at binding.now) (expression expr.now) }
-{
-    if binding.bound_first() < variable {
-        return value(expr, binding);
-    }
-    bound_value(expr, binding)
-}
-
 /// The value of an expression whose variables are bound.
 #[inline(always)]
-fn bound_value<A: Allocator + Copy>(expr: &Expr<A>, binding: &Binding<'_, A>) -> Option<i64>
+pub(crate) fn bound_value<A: Allocator + Copy>(
+    expr: &Expr<A>,
+    binding: &Binding<'_, A>,
+) -> Option<i64>
     requires { AllBound binding.now (expression expr.now) }
     ensures { result ≡ value_of (bound_at binding.now) (expression expr.now) }
 {

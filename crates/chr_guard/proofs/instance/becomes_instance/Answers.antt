@@ -6,12 +6,14 @@ use Rattle.chr_guard.proofs.instance.becomes_instance.Goals as goal
 pub guard_holds-requires : goal.guard_holds-requires
 guard_holds-requires g c = (omega arith, fit_binds c.args.rule.now c.requires.0 c.args.binding.now c.requires.1)
 
-pub bind_body-requires : goal.bind_body-requires
-bind_body-requires g c = let len : length c.args.binding.now ≡ c.args.rule.now.variables = c.requires.1.places in omega arith
+pub complete_body-requires : goal.complete_body-requires
+complete_body-requires g c =
+    let len : length c.args.binding.now ≡ c.args.rule.now.variables = c.requires.1.places in
+    (omega arith, (omega arith, fit_binds c.args.rule.now c.requires.0 c.args.binding.now c.requires.1))
 
 pub returns-clause-instance : goal.returns-clause-instance
 returns-clause-instance g c facts fit =
-    becomes_if c.args.rule.now c.guard_holds.ensures.valid facts c.bind_body.result c.args.binding.now c.bind_body.new.binding fit (c.if-not-guard_holds.ensures.holds.0 refl) c.bind_body.ensures.completed
+    becomes_if c.args.rule.now c.guard_holds.ensures.valid facts c.complete_body.result c.args.binding.now c.complete_body.new.binding fit (c.if-not-guard_holds.ensures.holds.0 refl) c.complete_body.ensures.completed
 
 pub returns-then-not-guard_holds-clause-instance : goal.returns-then-not-guard_holds-clause-instance
 returns-then-not-guard_holds-clause-instance g c facts fit =
