@@ -57,9 +57,15 @@ known_terms binding n (t ∷ ts) are k =
     let two = and_parts (argument_known n t) (list_all (argument_known n) ts) k in
     (λ x is. are x (ltb-true x n (ap (argument_known n) (sym is) ∙ two.0)), known_terms binding n ts are two.1)
 
-pub known_sides : (binding : List (Option (Value ℕ))) (n : ℕ) (t : Comparison ℕ) → AreBound n binding → test_known n t ≡ true → SidesBound binding t
+known_sides : (binding : List (Option (Value ℕ))) (n : ℕ) (t : Comparison ℕ) → AreBound n binding → test_known n t ≡ true → SidesBound binding t
 known_sides binding n (Compared r a b) are k =
     let two = and_parts (expression_known n a) (expression_known n b) k in
     (known_bound binding n a are two.0, known_bound binding n b are two.1)
 known_sides binding n (Same s t) are k = tt
 known_sides binding n (Differ s t) are k = tt
+
+pub known_guard : (binding : List (Option (Value ℕ))) (n : ℕ) (ts : List (Comparison ℕ)) → AreBound n binding → list_all (test_known n) ts ≡ true → AllByRecursion (SidesBound binding) ts
+known_guard binding n [] are k = tt
+known_guard binding n (t ∷ ts) are k =
+    let two = and_parts (test_known n t) (list_all (test_known n) ts) k in
+    (known_sides binding n t are two.0, known_guard binding n ts are two.1)

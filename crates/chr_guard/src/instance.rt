@@ -1,6 +1,7 @@
 //! Which atoms are an instance of a rule.
-ghost use Rattle.std.specs.Prelude.{List, ℕ, map, IfOk, MatchOption};
+ghost use Rattle.std.specs.Prelude.{◌≡◌, List, ℕ, map, IfOk, MatchOption};
 ghost use Rattle.chr_value.specs.Atoms.{Atom};
+ghost use Rattle.chr_rule.specs.Parts.{comparison};
 ghost use Rattle.chr_guard.specs.Bindings.{Keeps};
 ghost use Rattle.chr_guard.specs.Instances.{IsInstance, NoInstance};
 ghost use Rattle.chr_guard.specs.Matching.{HeadsAre, IsFit, IsInstanceIf, IsInstanceUnder};
@@ -9,19 +10,26 @@ use crate::binding::Binding;
 use crate::body::{Body, added_atoms, complete_body};
 use crate::matching::fit_all;
 use crate::values::guard_holds;
-use chr_rule::Rule;
+use chr_rule::{Comparison, Rule};
 use chr_value::Atom;
 use std::alloc::{AllocError, Allocator};
 
 /// Binds all variables of a rule's instance, where those of its heads are bound. False where the heads' atoms are no
-/// instance, whatever the body.
+/// instance, whatever the body. The guard is the rule's: who tries many atoms keeps it at hand.
 #[inline(always)]
-pub fn becomes_instance<A: Allocator + Copy>(rule: &Rule<A>, binding: &mut Binding<'_, A>) -> bool
-    requires { (facts : List (Atom ℕ)) × IsFit rule.now (HeadsAre rule.now facts) binding.old }
+pub fn becomes_instance<A: Allocator + Copy>(
+    rule: &Rule<A>,
+    guard: &[Comparison<A>],
+    binding: &mut Binding<'_, A>,
+) -> bool
+    requires guard { map comparison guard.now ≡ rule.now.guard }
+    requires fit { (facts : List (Atom ℕ)) × IsFit rule.now (HeadsAre rule.now facts) binding.old }
     ensures instance { (facts : List (Atom ℕ)) → IsFit rule.now (HeadsAre rule.now facts) binding.old → IsInstanceIf rule.now facts result binding.new }
     ensures keeps { Keeps binding.old binding.new }
 {
-    if !guard_holds(rule, binding) {
+    // Any rule is in scope, as this says of it: its heads bind the variables of its guard.
+    let _ = rule.variables();
+    if !guard_holds(guard, binding) {
         return false;
     }
     complete_body(rule, binding)
@@ -36,7 +44,7 @@ pub fn instance_from<'v, A: Allocator + Copy>(
     requires { (facts : List (Atom ℕ)) × IsFit rule.now (HeadsAre rule.now facts) binding }
     ensures { (facts : List (Atom ℕ)) → IsFit rule.now (HeadsAre rule.now facts) binding.entry → MatchOption result (NoInstance rule.now facts) (IsInstanceUnder rule.now facts) }
 {
-    if !becomes_instance(rule, &mut binding) {
+    if !becomes_instance(rule, rule.guard(), &mut binding) {
         return None;
     }
     Some(binding)

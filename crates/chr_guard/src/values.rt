@@ -1,16 +1,14 @@
 //! The value of an expression, and when a guard holds.
-ghost use Rattle.std.specs.Prelude.{◌≡◌, ◌↔◌, ℕ, IsTrue, IsSome};
+ghost use Rattle.std.specs.Prelude.{◌≡◌, ◌↔◌, IsTrue, map};
 ghost use Rattle.std.specs.List.{AllByRecursion};
 ghost use Rattle.chr_rule.specs.Parts.{expression, comparison};
 ghost use Rattle.chr_rule.specs.Rules.{Compared};
-ghost use Rattle.chr_rule.specs.Scope.{IsRule};
 ghost use Rattle.chr_guard.specs.Values.{both, computed, value_of, Holds};
 ghost use Rattle.chr_guard.specs.Bindings.{bound_at, AllBound, SidesBound};
-ghost use Rattle.chr_guard.specs.Matching.{IsOfHeads};
 
 use crate::arithmetic::{compare, compute};
 use crate::binding::Binding;
-use chr_rule::{Comparison, Expr, Operator, Relation, Rule};
+use chr_rule::{Comparison, Expr, Operator, Relation};
 use chr_value::ValueRef;
 use std::alloc::Allocator;
 
@@ -166,14 +164,16 @@ fn bound_holds<A: Allocator + Copy>(test: &Comparison<A>, binding: &Binding<'_, 
     }
 }
 
-/// Whether each comparison of a rule's guard holds, where the variables of its heads are bound.
+/// Whether each comparison of a guard holds. In those of numbers the variables are bound.
 #[inline(always)]
-pub(crate) fn guard_holds<A: Allocator + Copy>(rule: &Rule<A>, binding: &Binding<'_, A>) -> bool
-    requires { (x : ℕ) → IsOfHeads rule.now x → IsSome (bound_at binding.now x) }
-    ensures holds { IsTrue result ↔ AllByRecursion (Holds (bound_at binding.now)) rule.now.guard }
-    ensures valid { IsRule rule.now }
+pub(crate) fn guard_holds<A: Allocator + Copy>(
+    guard: &[Comparison<A>],
+    binding: &Binding<'_, A>,
+) -> bool
+    requires { AllByRecursion (SidesBound binding.now) (map comparison guard.now) }
+    ensures { IsTrue result ↔ AllByRecursion (Holds (bound_at binding.now)) (map comparison guard.now) }
 {
-    for test in rule.guard() {
+    for test in guard {
         if !bound_holds(test, binding) {
             return false;
         }
