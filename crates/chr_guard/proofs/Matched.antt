@@ -1,7 +1,7 @@
 -- Heads, atoms and the bindings that make them equal.
 use Rattle.std.proofs.lemmas.List.Elements.{All-from_recursion, recursion_from_All}
 use Rattle.std.proofs.lemmas.Option.{get_or_from_slice_get, slice_get_within}
-use Rattle.std.proofs.Common.{get_or-append-add, ◌≡◌, ◌↔◌, ℕ, zero, suc, ◌≤◌, ◌+◌, ◌<◌, Bool, true, false, List, [], ◌∷◌, ◌++◌, length, take, drop, map, replicate, get_or, Option, Some, None, IsSome, refl, sym, subst, ap, ap₂, ◌∙◌, arith, slice_get, slice_set, option_map, MatchOption, ℤ, pos, inl, inr, subst₂, nat_lt, rules}
+use Rattle.std.proofs.Common.{get_or-append-add, ◌≡◌, ◌↔◌, ℕ, zero, suc, ◌≤◌, ◌+◌, ◌<◌, Bool, true, false, List, [], ◌∷◌, ◌++◌, length, take, drop, map, replicate, get_or, Option, Some, None, IsSome, refl, sym, subst, ap, ap₂, ◌∙◌, arith, slice_get, slice_set, option_map, MatchOption, ℤ, inl, inr, subst₂, nat_lt, rules}
 use Rattle.std.specs.List.{AllByRecursion, list_all}
 use Rattle.std.proofs.lemmas.List.{get_or_append_left, length-replicate, length-append, map-append, length-map, take_at, drop_at, drop_more, take_all, take_more, take-append-drop, append-nil, set-get_or}
 use Rattle.std.proofs.lemmas.Simd.{map-map}
@@ -21,7 +21,7 @@ use Rattle.chr_guard.proofs.Scoped.{scoped, IsPlaced, heads_below, body_below, a
 use Rattle.chr_guard.proofs.Under.{atom_is, heads_bound, value_grows, made_grows, atoms_append, none_made, added_append, none_is_none, some_is_some, some_atom}
 use Rattle.chr_guard.proofs.Valued.{AreBound, value_bound, terms_bound, known_bound, known_terms}
 use Rattle.chr_guard.proofs.Bindings.{narrows_both, narrows_as, none_after, free_extends, extends_itself, narrows_nothing, others_stay, bound_settled, stays_bound, told_new, told_bound}
-use Rattle.chr_guard.proofs.Steps.{all_more, all_at, halves, SoFar, map_read, known_read, read_more, read_there}
+use Rattle.chr_guard.proofs.Steps.{all_more, all_at, halves, SoFar, map_read, read_more}
 use Rattle.std.proofs.lemmas.Bool.{cases_lt, cases_eq}
 use Rattle.std.proofs.lemmas.Bool.Decides.{nat_tests}
 use Rattle.chr_guard.proofs.Fixed.{Agree, value_agrees, made_agrees}
@@ -37,7 +37,7 @@ told_head told s a old new name n =
     (λ v. (λ h. (atom_is v s a).1 (name, h), λ h. ((atom_is v s a).0 h).1)) n
 
 -- a term that takes a value is that value from then on
-term_taken : (old : List (Option (Value ℕ))) (t : Term ℕ) (a : Value ℕ) → argument_known (length old) t ≡ true → TakesValue old t a → Narrows (λ v. term_under v t ≡ Some a) old (with_term old t a)
+pub term_taken : (old : List (Option (Value ℕ))) (t : Term ℕ) (a : Value ℕ) → argument_known (length old) t ≡ true → TakesValue old t a → Narrows (λ v. term_under v t ≡ Some a) old (with_term old t a)
 term_taken old (Var x) a known (inl free) = let within : x < length old = grind (arith, nat_tests) in told_new old x a within free
 term_taken old (Var x) a known (inr bound) =
     let same : slice_set old x (Some a) ≡ old = ap (slice_set old x) (sym bound) ∙ set-get_or old x None in
@@ -55,45 +55,39 @@ take_count binding [] (a ∷ values) take = absurd take
 pub take_each : {A : Type 0} (binding : List (Option (Value ℕ))) (ts : List (CodeTerm A)) (values : List (Value ℕ)) → TakeValues binding (map argument ts) values → length ts ≡ length values
 take_each binding ts values take = sym (length-map ts argument) ∙ take_count binding (map argument ts) values take
 
--- the binding once the first i terms have taken their values
-pub record Taking (ts : List (Term ℕ)) (values : List (Value ℕ)) (i : ℕ) (old new : List (Option (Value ℕ))) : Type 0 where
-  pub narrows : Narrows (SoFar term_under ts (map (λ t. Some t) values) i) old new
-  pub rest : TakeValues new (drop i ts) (drop i values)
-
 -- a term that is no variable binds none
 not_variable : {A : Type 0} (binding : List (Option (Value ℕ))) (t : CodeTerm A) (a : Value ℕ) → ((x : ℕ) → t ≡ code.Var x → ⊥) → with_term binding (argument t) a ≡ binding
 not_variable binding (code.Var x) a other = absurd (other x refl)
 not_variable binding (code.Given b) a other = ap (λ u. with_term binding u a) (argument-Given b)
 not_variable binding (code.Open' p s n row) a other = search (rules, the_lemmas)
 
+-- a term of the code that is a variable
+pub term_within : {A : Type 0} (old : List (Option (Value ℕ))) (t : CodeTerm A) (x : ℕ) → t ≡ code.Var x → argument_known (length old) (argument t) ≡ true → x < length old
+term_within {A} old t x e here = let known : nat_lt x (length old) ≡ true = ap (argument_known (length old)) (sym (ap argument e ∙ argument-Var A x)) ∙ here in grind (arith, nat_tests)
+
+pub term_put : {A : Type 0} (old : List (Option (Value ℕ))) (t : CodeTerm A) (a : Value ℕ) (x : ℕ) (new : List (Option (Value ℕ))) → t ≡ code.Var x → new ≡ slice_set old x (Some a) → new ≡ with_term old (argument t) a
+term_put {A} old t a x new e put = put ∙ sym (ap (λ u. with_term old u a) (ap argument e ∙ argument-Var A x))
+
+-- the binding once the first i terms equal their values, where those that are left take them if all are fresh
+pub record Taking (fresh : Bool) (ts : List (Term ℕ)) (values : List (Value ℕ)) (i : ℕ) (old new : List (Option (Value ℕ))) : Type 0 where
+  pub narrows : Narrows (SoFar term_under ts (map (λ t. Some t) values) i) old new
+  pub rest : fresh ≡ true → TakeValues new (drop i ts) (drop i values)
+
 -- one term of the code more
-module _ {A : Type 0} (ts : List (CodeTerm A)) (values : List (Value ℕ)) (i : ℕ) (t : CodeTerm A) (old mid : List (Option (Value ℕ))) (left : i < length ts) (count : length ts ≡ length values) (is : t ≡ get_or ts i t) (known : list_all (argument_known (length old)) (map argument ts) ≡ true) (so_far : Taking (map argument ts) values i old mid) where
-  right : i < length values
-  right = omega (arith, left, count)
+module _ {A : Type 0} (fresh : Bool) (ts : List (CodeTerm A)) (values : List (Value ℕ)) (i : ℕ) (t : CodeTerm A) (a : Value ℕ) (old mid : List (Option (Value ℕ))) (left : i < length ts) (right : i < length values) (is : t ≡ get_or ts i t) (at : a ≡ get_or values i a) (so_far : Taking fresh (map argument ts) values i old mid) where
+  takes_on : fresh ≡ true → TakeValues mid (argument t ∷ drop (i + 1) (map argument ts)) (a ∷ drop (i + 1) values)
+  takes_on all =
+      subst₂ (TakeValues mid) (drop_more (map argument ts) i (argument t) (rw length-map left) ∙ ap (λ u. u ∷ drop (i + 1) (map argument ts)) (sym (map_read argument ts i t left is)))
+      (drop_more values i a right ∙ ap (λ b. b ∷ drop (i + 1) values) (sym at)) (so_far.rest all)
 
-  here : argument_known (length mid) (argument t) ≡ true
-  here = ap (λ n. argument_known n (argument t)) so_far.narrows.places ∙ known_read (argument_known (length old)) argument ts i t left is known
+  pub taking_here : fresh ≡ true → TakesValue mid (argument t) a
+  taking_here all = (takes_on all).0
 
-  taking_more : (a : Value ℕ) → a ≡ get_or values i a → Taking (map argument ts) values (i + 1) old (with_term mid (argument t) a)
-  taking_more a at =
-      let terms = drop_more (map argument ts) i (argument t) (rw length-map left) ∙ ap (λ u. u ∷ drop (i + 1) (map argument ts)) (sym (map_read argument ts i t left is)) in
-      let rest = subst₂ (TakeValues mid) terms (drop_more values i a right ∙ ap (λ b. b ∷ drop (i + 1) values) (sym at)) so_far.rest in
-      record {
-        narrows = read_more term_under argument (λ b. Some b) ts values i t a left right is at old mid (with_term mid (argument t) a) so_far.narrows (term_taken mid (argument t) a here rest.0);
-        rest = rest.1;
-      }
-
-  pub taking_within : (x : ℕ) → t ≡ code.Var x → x < length mid
-  taking_within x e = let known : nat_lt x (length mid) ≡ true = ap (argument_known (length mid)) (sym (ap argument e ∙ argument-Var A x)) ∙ here in grind (arith, nat_tests)
-
-  pub taking_put : (x : ℕ) (a : Value ℕ) (new : List (Option (Value ℕ))) → t ≡ code.Var x → a ≡ get_or values i a → new ≡ slice_set mid x (Some a) → Taking (map argument ts) values (i + 1) old new
-  taking_put x a new e at put =
-      subst (Taking (map argument ts) values (i + 1) old) (ap (λ u. with_term mid u a) (ap argument e ∙ argument-Var A x) ∙ sym put) (taking_more a at)
-
-  pub taking_past : ((x : ℕ) → t ≡ code.Var x → ⊥) → Taking (map argument ts) values (i + 1) old mid
-  taking_past other =
-      let a = get_or values i (Int (pos 0)) in
-      subst (Taking (map argument ts) values (i + 1) old) (not_variable mid t a other) (taking_more a (read_there values i (Int (pos 0)) right))
+  pub taking_more : (new : List (Option (Value ℕ))) → Narrows (λ v. term_under v (argument t) ≡ Some a) mid new → (fresh ≡ true → new ≡ with_term mid (argument t) a) → Taking fresh (map argument ts) values (i + 1) old new
+  taking_more new narrows put = record {
+    narrows = read_more term_under argument (λ b. Some b) ts values i t a left right is at old mid new so_far.narrows narrows;
+    rest = λ all. subst (λ b. TakeValues b (drop (i + 1) (map argument ts)) (drop (i + 1) values)) (sym (put all)) (takes_on all).1;
+  }
 
 placed_in : (hs : List (RuleAtom ℕ)) (n j : ℕ) (s : RuleAtom ℕ) → AllByRecursion (IsPlaced n) hs → slice_get hs j ≡ Some s → list_all (argument_known n) s.args ≡ true
 placed_in hs n j s a e = subst (IsPlaced n) (get_or_from_slice_get hs j s s e) (All-from_recursion (IsPlaced n) hs a j s (slice_get_within hs j s e))

@@ -136,8 +136,8 @@ fn is_ready<A: Allocator + Copy>(item: &BodyItem<A>, binding: &Binding<'_, A>) -
     }
 }
 
-/// Binds the variable left of an `is` to the value. False where there is none, where that of an argument of a constraint is
-/// none, and where the variable is bound to another.
+/// Binds the variable left of an `is` to the expression's value. False where it has none or the variable is bound to another,
+/// and where an argument of a constraint has none.
 #[inline(always)]
 fn bind_item<A: Allocator + Copy>(item: &BodyItem<A>, binding: &mut Binding<'_, A>) -> bool
     requires place { (x : ℕ) (e : Expression) → member item.now ≡ Is x e → x < length binding.old }
@@ -155,8 +155,8 @@ fn bind_item<A: Allocator + Copy>(item: &BodyItem<A>, binding: &mut Binding<'_, 
 }
 
 /// Binds the variables left of `is` in a rule's body to the values. False only where some `is` or some argument has no
-/// value, or where the variable of an `is` is bound to another. Where the variables of the heads are bound, none is asked
-/// for: each other is bound by its turn.
+/// value, or where the variable of an `is` is bound to another. Where the variables of the heads are bound, each other is by
+/// its turn, and none is looked at for that.
 #[inline(always)]
 fn bind_body<A: Allocator + Copy>(
     rule: &Rule<A>,

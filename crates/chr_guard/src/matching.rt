@@ -8,7 +8,7 @@ ghost use Rattle.chr_rule.specs.Scope.{argument_known};
 ghost use Rattle.chr_guard.specs.Values.{term_under};
 ghost use Rattle.chr_guard.specs.Bindings.{Keeps, Narrows, NarrowsIf};
 ghost use Rattle.chr_guard.specs.Instances.{atom_under};
-ghost use Rattle.chr_guard.specs.Matching.{AreAtHeads, HeadsAre, IsFit, TakeValues};
+ghost use Rattle.chr_guard.specs.Matching.{AreAtHeads, HeadsAre, IsFit, TakesValue, TakeValues, with_term};
 
 use crate::binding::Binding;
 use chr_rule::{Rule, RuleAtom, Term};
@@ -82,6 +82,31 @@ fn arg_of<'v, A: Allocator + Copy>(atom: &'v Atom<A>, index: usize, is_own: bool
     }
 }
 
+/// Extends a binding so that a term equals a value, as [`fit_term`] does. Where the term is fresh, which is a free variable or
+/// stands for the value already, nothing is compared.
+#[inline(always)]
+fn take_term<'v, A: Allocator + Copy>(
+    binding: &mut Binding<'v, A>,
+    term: &Term<A>,
+    value: ValueRef<'v, A>,
+    is_fresh: bool,
+) -> bool
+    requires known { argument_known (length binding.old) (argument term.now) ≡ true }
+    requires within { IsWithin (said value) }
+    requires fresh { is_fresh ≡ true → TakesValue binding.old (argument term.now) (said value) }
+    ensures narrows { NarrowsIf (λ v. term_under v (argument term.now) ≡ Some (said value.entry)) result binding.old binding.new }
+    ensures keeps { Keeps binding.old binding.new }
+    ensures taken { is_fresh ≡ true → (result ≡ true) × (binding.new ≡ with_term binding.old (argument term.now) (said value.entry)) }
+{
+    if !is_fresh {
+        return fit_term(binding, term, value);
+    }
+    if let Term::Var(x) = term {
+        binding.put(*x, value);
+    }
+    true
+}
+
 /// The same for the arguments of a head, of which there are as many as an atom has, all in the atom itself where `are_own`
 /// says so.
 #[inline(always)]
@@ -90,15 +115,18 @@ fn fit_each<'v, A: Allocator + Copy>(
     terms: &[Term<A>],
     atom: &'v Atom<A>,
     are_own: bool,
+    are_fresh: bool,
 ) -> bool
     requires known { list_all (argument_known (length binding.old)) (map argument terms.now) ≡ true }
     requires arity { length terms.now ≡ length atom.now.args }
     requires own { are_own ≡ true → length terms.now ≤ 3 }
+    requires fresh { are_fresh ≡ true → TakeValues binding.old (map argument terms.now) atom.now.args }
     ensures narrows { NarrowsIf (λ v. map (term_under v) (map argument terms.now) ≡ map (λ t. Some t) atom.now.args) result binding.old binding.new }
     ensures keeps { Keeps binding.old binding.new }
+    ensures taken { are_fresh ≡ true → result ≡ true }
 {
     for i in 0..terms.len() {
-        if !fit_term(binding, &terms[i], arg_of(atom, i, are_own)) {
+        if !take_term(binding, &terms[i], arg_of(atom, i, are_own), are_fresh) {
             return false;
         }
     }
@@ -110,13 +138,16 @@ fn fit_many<'v, A: Allocator + Copy>(
     binding: &mut Binding<'v, A>,
     terms: &[Term<A>],
     atom: &'v Atom<A>,
+    are_fresh: bool,
 ) -> bool
     requires known { list_all (argument_known (length binding.old)) (map argument terms.now) ≡ true }
     requires arity { length terms.now ≡ length atom.now.args }
+    requires fresh { are_fresh ≡ true → TakeValues binding.old (map argument terms.now) atom.now.args }
     ensures narrows { NarrowsIf (λ v. map (term_under v) (map argument terms.now) ≡ map (λ t. Some t) atom.now.args) result binding.old binding.new }
     ensures keeps { Keeps binding.old binding.new }
+    ensures taken { are_fresh ≡ true → result ≡ true }
 {
-    fit_each(binding, terms, atom, false)
+    fit_each(binding, terms, atom, false, are_fresh)
 }
 
 /// The same for any arguments. Most atoms have few, which lie in them.
@@ -125,16 +156,19 @@ fn fit_args<'v, A: Allocator + Copy>(
     binding: &mut Binding<'v, A>,
     terms: &[Term<A>],
     atom: &'v Atom<A>,
+    are_fresh: bool,
 ) -> bool
     requires known { list_all (argument_known (length binding.old)) (map argument terms.now) ≡ true }
     requires arity { length terms.now ≡ length atom.now.args }
+    requires fresh { are_fresh ≡ true → TakeValues binding.old (map argument terms.now) atom.now.args }
     ensures narrows { NarrowsIf (λ v. map (term_under v) (map argument terms.now) ≡ map (λ t. Some t) atom.now.args) result binding.old binding.new }
     ensures keeps { Keeps binding.old binding.new }
+    ensures taken { are_fresh ≡ true → result ≡ true }
 {
     if terms.len() <= OWN_ARGS {
-        fit_each(binding, terms, atom, true)
+        fit_each(binding, terms, atom, true, are_fresh)
     } else {
-        fit_many(binding, terms, atom)
+        fit_many(binding, terms, atom, are_fresh)
     }
 }
 
@@ -151,62 +185,7 @@ pub fn fit_partner<'v, A: Allocator + Copy>(
     ensures narrows { NarrowsIf (λ v. atom_under v (shape head.now) ≡ Some atom.now) result binding.old binding.new }
     ensures keeps { Keeps binding.old binding.new }
 {
-    fit_args(binding, &head.terms, atom)
-}
-
-/// Binds the variables among the arguments of a head, each of which is a free variable, or stands for the atom's argument
-/// already. The atom has them all in itself where `are_own` says so.
-#[inline(always)]
-fn bind_each<'v, A: Allocator + Copy>(
-    binding: &mut Binding<'v, A>,
-    terms: &[Term<A>],
-    atom: &'v Atom<A>,
-    are_own: bool,
-)
-    requires known { list_all (argument_known (length binding.old)) (map argument terms.now) ≡ true }
-    requires own { are_own ≡ true → length terms.now ≤ 3 }
-    requires values { TakeValues binding.old (map argument terms.now) atom.now.args }
-    ensures narrows { Narrows (λ v. map (term_under v) (map argument terms.now) ≡ map (λ t. Some t) atom.now.args) binding.old binding.new }
-    ensures keeps { Keeps binding.old binding.new }
-{
-    for i in 0..terms.len() {
-        if let Term::Var(x) = &terms[i] {
-            binding.put(*x, arg_of(atom, i, are_own));
-        }
-    }
-}
-
-/// The same for many arguments, which takes a call.
-fn bind_many<'v, A: Allocator + Copy>(
-    binding: &mut Binding<'v, A>,
-    terms: &[Term<A>],
-    atom: &'v Atom<A>,
-)
-    requires known { list_all (argument_known (length binding.old)) (map argument terms.now) ≡ true }
-    requires values { TakeValues binding.old (map argument terms.now) atom.now.args }
-    ensures narrows { Narrows (λ v. map (term_under v) (map argument terms.now) ≡ map (λ t. Some t) atom.now.args) binding.old binding.new }
-    ensures keeps { Keeps binding.old binding.new }
-{
-    bind_each(binding, terms, atom, false)
-}
-
-/// The same for any arguments. Most atoms have few, which lie in them.
-#[inline(always)]
-fn bind_args<'v, A: Allocator + Copy>(
-    binding: &mut Binding<'v, A>,
-    terms: &[Term<A>],
-    atom: &'v Atom<A>,
-)
-    requires known { list_all (argument_known (length binding.old)) (map argument terms.now) ≡ true }
-    requires values { TakeValues binding.old (map argument terms.now) atom.now.args }
-    ensures narrows { Narrows (λ v. map (term_under v) (map argument terms.now) ≡ map (λ t. Some t) atom.now.args) binding.old binding.new }
-    ensures keeps { Keeps binding.old binding.new }
-{
-    if terms.len() <= OWN_ARGS {
-        bind_each(binding, terms, atom, true)
-    } else {
-        bind_many(binding, terms, atom)
-    }
+    fit_args(binding, &head.terms, atom, false)
 }
 
 /// Extends a binding so that a head equals an atom of its predicate, where each of the head's arguments is a free variable, or
@@ -223,7 +202,7 @@ pub fn bind_partner<'v, A: Allocator + Copy>(
     ensures narrows { Narrows (λ v. atom_under v (shape head.now) ≡ Some atom.now) binding.old binding.new }
     ensures keeps { Keeps binding.old binding.new }
 {
-    bind_args(binding, &head.terms, atom)
+    fit_args(binding, &head.terms, atom, true);
 }
 
 /// Extends a binding so that a head equals an atom. False only where no valuation that extends it makes them equal.
