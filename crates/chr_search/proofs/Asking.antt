@@ -1,6 +1,6 @@
 -- What is asked of a store for the next partner, and what its answer says.
 use Rattle.chr_search.specs.Passing.{IsNarrowedIf}
-use Rattle.std.proofs.Common.{◌≡◌, ◌≢◌, ◌↔◌, ℕ, zero, suc, ◌-◌, ◌<◌, ◌≤◌, Bool, true, false, IsTrue, ltb, ◌&&◌, ◌||◌, ◌==◌, take, drop, List, [], ◌∷◌, ◌++◌, length, replicate, Option, Some, None, slice_get, refl, sym, ◌∙◌, ap, ap₂, subst, arith, length-append}
+use Rattle.std.proofs.Common.{◌≡◌, ◌≢◌, ◌↔◌, ℕ, zero, suc, ◌+◌, ◌-◌, ◌<◌, ◌≤◌, Bool, true, false, IsTrue, ltb, ◌&&◌, ◌||◌, ◌==◌, take, drop, List, [], ◌∷◌, ◌++◌, length, replicate, Option, Some, None, slice_get, refl, sym, ◌∙◌, ap, ap₂, subst, arith, length-append}
 use Rattle.std.specs.List.{list_any}
 use Rattle.std.specs.Option.{option_map}
 use Rattle.std.proofs.lemmas.Bool.Decides.{nat_tests}
@@ -20,10 +20,10 @@ use Rattle.chr_model.specs.Stores.{atom_at, among}
 use Rattle.chr_plan.specs.Orders.{heads_of, first_step}
 use Rattle.chr_plan.specs.declared.order.Step.{Step}
 use Rattle.chr_store.specs.Labels.{GivenBefore}
-use Rattle.chr_search.specs.Tree.{Grows}
+use Rattle.chr_search.specs.Tree.{Grows, LeastFrom, NoneFrom}
 use Rattle.chr_search.specs.Trials.{Join, StandsAt, HasHeadPred, MayFollow, IsInTurn}
 use Rattle.chr_search.specs.declared.join.Asked.{Asked}
-use Rattle.chr_search.specs.Partners.{HasPlan, IsReady, key_value, keyed_at, KeyIs, key_in, IsAskedFor}
+use Rattle.chr_search.specs.Partners.{HasPlan, IsReady, key_value, keyed_at, KeyIs, key_in, IsAskedFor, IsPartnerFrom}
 use Rattle.chr_search.proofs.Plans.{order_of_plan, step_keyed}
 use Rattle.chr_search.proofs.Following.{follows_live, follows_at}
 use Rattle.chr_search.proofs.Partners.{IsAsked, fit_last, ready_more, no_fit, older_than_first}
@@ -113,6 +113,14 @@ asked j labels binding from a key after next some r f k e g = record {
   under = refl;
   labelled = λ l a there. (label_bounds next j.store g l a there).0;
 }
+
+-- labels that may follow are numbered from 1, so that from 0 and from 1 are the same to look from
+pub follows_low : (j : Join) (next : ℕ) → GivenBefore next j.store → (ls : List ℕ) (x : ℕ) → MayFollow j ls x → 1 ≤ x
+follows_low j next g ls x m = (label_bounds next j.store g x m.atom m.live).0
+
+pub partner_from : (j : Join) (next : ℕ) → GivenBefore next j.store → (ls : List ℕ) (from after : ℕ) → after ≡ from - 1 → (found : Option ℕ) → IsPartnerFrom j ls (after + 1) found → IsPartnerFrom j ls from found
+partner_from j next g ls from after e None n = λ x m low. n x m (omega (arith, follows_low j next g ls x m))
+partner_from j next g ls from after e (Some l) n = record { holds = n.holds; there = omega (arith, n.there); least = λ x m low. n.least x m (omega (arith, follows_low j next g ls x m)) }
 
 -- the active label may begin
 pub begins_by : (j : Join) (h : ℕ) (head : RuleAtom ℕ) (atom : Atom ℕ) → slice_get j.order 0 ≡ Some (first_step (heads_of j.rule) h) → head_at j.rule h ≡ Some head → atom_at j.store j.active ≡ Some atom → HasHeadPred head atom → MayFollow j [] j.active

@@ -1,5 +1,6 @@
 -- Going over the trials below labels.
-use Rattle.std.proofs.Common.{◌≡◌, ℕ, zero, suc, ◌+◌, ◌-◌, ◌<◌, ◌≤◌, List, [], ◌∷◌, ◌++◌, length, Option, refl, sym, ◌∙◌, ap, subst, arith, length-append, inr}
+use Rattle.std.proofs.Common.{◌≡◌, ℕ, zero, suc, ◌+◌, ◌-◌, ◌<◌, ◌≤◌, true, List, [], ◌∷◌, ◌++◌, length, Option, refl, sym, ◌∙◌, ap, subst, arith, length-append, inr}
+use Rattle.std.proofs.lemmas.Bool.Decides.{nat_tests}
 use Rattle.chr_value.specs.Atoms.{Value}
 use Rattle.chr_search.specs.declared.passing.End.{End}
 use Rattle.chr_search.specs.declared.passing.End.TheVariants as ends
@@ -7,7 +8,8 @@ use Rattle.chr_search.specs.declared.passing.Passed.{Passed}
 use Rattle.chr_search.specs.declared.passing.Stop.{Stop}
 use Rattle.chr_search.specs.declared.passing.Stop.TheVariants as stops
 use Rattle.chr_search.specs.declared.judged.Verdict.TheVariants.{Misfit, Part}
-use Rattle.chr_search.specs.Tree.{Grows, Least, NoneBeyond, LeastFrom, NoneFrom}
+use Rattle.chr_search.specs.Positions.{at_or_after}
+use Rattle.chr_search.specs.Tree.{Grows, Beyond, Least, NoneBeyond, LeastFrom, NoneFrom}
 use Rattle.chr_search.specs.Trials.{Join, MayFollow}
 use Rattle.chr_search.specs.Partners.{HasPlan}
 use Rattle.chr_search.specs.Passing.{AreJudged, AreWhole, AreMisfits, PassesOneIn, PassesIn, IsCounted, PassesPlan, PassesBelow, PassesLevel, IsAfterPart, IsBelow, IsDone, EndsIn, EndsBelow}
@@ -28,6 +30,21 @@ below_at j ls place from g is = below_of j ls place (from ∷ []) from g is (com
 
 below_first : (j : Join) → IsBelow j [] [] 0
 below_first j = below_of j [] [] [] 0 tt refl (come_first (MayFollow j) 1 [] (omega arith))
+
+-- and from a greater number on, where that skips none that may follow
+pub below_later : (j : Join) (ls place : List ℕ) (from later : ℕ) → from ≤ later → ((x : ℕ) → MayFollow j ls x → from ≤ x → later ≤ x) → IsBelow j ls place from → IsBelow j ls place later
+below_later j ls place from later more skips b = record { grows = b.grows; rest = b.rest; is = b.is; into = λ other k. onto other k (b.into other k); back = λ other e. b.back other (back other e) }
+  where
+    onto : (other : List ℕ) → Beyond (MayFollow j) 1 ls b.rest other → at_or_after (from ∷ []) other ≡ true → at_or_after (later ∷ []) other ≡ true
+    onto [] k e = absurd (cc)
+    onto (x ∷ xs) k e =
+        let low : from ≤ x = grind (arith, nat_tests) in
+        let high = skips x k.grows.0 low in
+        grind (arith, nat_tests)
+
+    back : (other : List ℕ) → at_or_after (later ∷ []) other ≡ true → at_or_after (from ∷ []) other ≡ true
+    back [] e = absurd (cc)
+    back (x ∷ xs) e = grind (arith, nat_tests)
 
 -- the least one there
 pub below_least : (j : Join) (ls place : List ℕ) (from x : ℕ) → IsBelow j ls place from → LeastFrom (MayFollow j ls) from x → Least (MayFollow j) 1 [] place (ls ++ x ∷ [])

@@ -49,7 +49,7 @@ fn is_misfit_after<'t, A: Allocator + Copy>(
     let Some(head) = rule.head(usize::from(last.head)) else {
         return true;
     };
-    !fit_head(binding, head, &last.atom) || !becomes_instance(rule, binding)
+    !fit_head(binding, head, &last.atom) || !becomes_instance(rule, rule.guard(), binding)
 }
 
 /// Whether the trial of a rule of one head and an atom at that head is a misfit. The binding becomes another one: where the
@@ -68,7 +68,7 @@ pub fn is_misfit_alone<'v, A: Allocator + Copy>(
     let Some(head) = rule.head(usize::from(head)) else {
         return true;
     };
-    !fit_head(binding, head, atom) || !becomes_instance(rule, binding)
+    !fit_head(binding, head, atom) || !becomes_instance(rule, rule.guard(), binding)
 }
 
 impl<'t, A: Allocator + Copy> Fitted<'t, A> {

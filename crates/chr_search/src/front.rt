@@ -98,8 +98,11 @@ impl<'b, 's, A: Allocator + Copy> Front<'b, 's, A> {
         ensures { (s : Space) (r h : ℕ) (ls : List ℕ) → IsFront s r h ls self.old → IsEndFrom s (r ∷ h ∷ ls) from result × IsFront s r h ls self.new }
     {
         let labels = self.labels.as_slice();
+        // For the proof: the labels of a store are numbered from 1.
+        let _given = self.join.view.active();
+        let after = from.saturating_sub(1);
         self.join
-            .next_at(&mut self.level, labels, self.binding, from)
+            .next_after(&mut self.level, labels, self.binding, after)
     }
 
     /// No labels, with room for those with which admissible trials end, but for at most so many. An `Err` is E01.

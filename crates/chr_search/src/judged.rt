@@ -162,7 +162,7 @@ fn judge_by<'v, A: Allocator + Copy>(trial: &'v Trial<A>, binding: &mut Binding<
     if placed.len() < rule.heads() {
         return Verdict::Part;
     }
-    if becomes_instance(rule, binding) {
+    if becomes_instance(rule, rule.guard(), binding) {
         Verdict::Whole
     } else {
         Verdict::Misfit

@@ -1,8 +1,9 @@
 //! Trials in the store that are judged without being made.
-ghost use Rattle.std.specs.Prelude.{◌≡◌, ◌↔◌, ◌==◌, ◌≤◌, ◌<◌, ◌∷◌, ◌++◌, [], ℕ, List, length, drop, Some, IfSome, IsSome, MatchOption, IsTrue};
+ghost use Rattle.std.specs.Prelude.{◌≡◌, ◌↔◌, ◌==◌, ◌≤◌, ◌<◌, ◌+◌, ◌^◌, ◌∷◌, ◌++◌, [], ℕ, max, List, length, drop, map, Some, IfSome, IsSome, MatchOption, IsTrue};
 ghost use Rattle.std.specs.List.{list_any};
 ghost use Rattle.chr_value.specs.Atoms.{Atom as AtomView};
 ghost use Rattle.chr_value.specs.Stores.{atom_at};
+ghost use Rattle.chr_rule.specs.Parts.{comparison};
 ghost use Rattle.chr_guard.specs.Bindings.{Keeps};
 ghost use Rattle.chr_search.specs.declared.passing.End.TheVariants as ends;
 ghost use Rattle.chr_search.specs.declared.passing.Stop.TheVariants as stops;
@@ -19,6 +20,7 @@ use crate::position::set_alone;
 use crate::search::Instance;
 use chr_guard::instance::becomes_instance;
 use chr_guard::{Binding, Known, bind_partner, fit_partner};
+use chr_rule::Comparison;
 use chr_store::{Label, Matches};
 use chr_value::Atom;
 use std::alloc::Allocator;
@@ -55,6 +57,8 @@ pub(crate) struct Level<'s, A: Allocator> {
     /// The variables that the labels before the last bind.
     known: Known,
     at: LastHead<'s, A>,
+    /// The comparisons of the rule's guard.
+    guard: &'s [Comparison<A>],
     /// The labels among which it is. None where the store has no index for them, or it is the active one.
     pub(crate) partners: Option<Matches<'s>>,
 }
@@ -184,30 +188,32 @@ impl<'s, A: Allocator + Copy> Join<'s, A> {
         Some(Level {
             known: binding.known(),
             at,
+            guard: self.rule.guard(),
             partners: self.partners(at, labels, binding),
         })
     }
 
-    /// The least label from one on at a level.
+    /// The least label over one at a level.
     #[inline(always)]
-    pub(crate) fn next_at(
+    pub(crate) fn next_after(
         &self,
         level: &mut Level<'s, A>,
         labels: &[Label],
         binding: &Binding<'s, A>,
-        from: Label,
+        after: Label,
     ) -> Option<Label>
+        requires small { after + 1 < 2 ^ 64 }
         requires begins { MayFollow (join_of self.now) [] self.now.view.active }
         requires plan { HasPlan (join_of self.now) }
         requires ready { IsReady (join_of self.now) labels.now binding.now }
         requires level { IsLevel (join_of self.now) labels.now binding.now level.old }
-        ensures least { IsPartnerFrom (join_of self.now) labels.now from result }
+        ensures least { IsPartnerFrom (join_of self.now) labels.now (after + 1) result }
         ensures older { IsSome level.new.partners → IfSome result (λ label. label < self.now.view.active) }
         ensures same { level.new ≡ level.old }
     {
         match &mut level.partners {
-            Some(partners) => partners.next_at(from.saturating_sub(1), self.view.active()),
-            None => self.next_child(labels, binding, from),
+            Some(partners) => partners.next_at(after, self.view.active()),
+            None => self.next_child(labels, binding, after + 1),
         }
     }
 
@@ -218,11 +224,10 @@ impl<'s, A: Allocator + Copy> Join<'s, A> {
         requires live { (atom : AtomView ℕ) × (atom_at self.now.view.store.entries label ≡ Some atom) }
         ensures { atom_at self.now.view.store.entries label ≡ Some result.now }
     {
-        let found = match level.partners {
-            Some(_) => self.view.older(label),
-            None => self.view.get(label),
-        };
-        let Some(atom) = found else {
+        if level.partners.is_some() {
+            return self.view.older(label);
+        }
+        let Some(atom) = self.view.get(label) else {
             unreachable!();
         };
         atom
@@ -234,11 +239,13 @@ impl<'s, A: Allocator + Copy> Join<'s, A> {
     fn judge_at(
         &self,
         at: LastHead<'s, A>,
+        guard: &[Comparison<A>],
         path: Path<'_>,
         label: Label,
         atom: &'s Atom<A>,
         narrowed: &mut Binding<'s, A>,
     ) -> Verdict
+        requires guard { map comparison guard.now ≡ self.now.rule.now.guard }
         requires others { path.others.now ≡ drop 1 path.labels.now }
         requires plan { HasPlan (join_of self.now) }
         requires at { IsLastHead (join_of self.now) path.labels.now at }
@@ -262,7 +269,7 @@ impl<'s, A: Allocator + Copy> Join<'s, A> {
         if !at.is_last {
             return Verdict::Part;
         }
-        if becomes_instance(self.rule, narrowed) {
+        if becomes_instance(self.rule, guard, narrowed) {
             return Verdict::Whole;
         }
         Verdict::Misfit
@@ -284,7 +291,7 @@ impl<'s, A: Allocator + Copy> Join<'s, A> {
         requires ready { IsReady (join_of self.now) instance.old.labels.items binding.old }
         requires level { IsLevel (join_of self.now) instance.old.labels.items binding.old level.old }
         ensures few { result.count ≤ most }
-        ensures misfits { AreMisfits (join_of self.now) instance.old.labels.items result.count from result.next }
+        ensures misfits { AreMisfits (join_of self.now) instance.old.labels.items result.count (max 1 from) result.next }
         ensures then { ComesNext (join_of self.now) instance.old.labels.items result.count most result.next result.then binding.new }
         ensures labels { instance.new.labels ≡ instance.old.labels }
         ensures same { level.new ≡ level.old }
@@ -292,29 +299,30 @@ impl<'s, A: Allocator + Copy> Join<'s, A> {
     {
         let path = Path::of(instance.labels.as_slice());
         let mut count = 0;
-        let mut next = from;
+        // The label found last.
+        let mut after = from.saturating_sub(1);
         while count < most {
-            let Some(label) = self.next_at(level, path.labels, binding, next) else {
-                let then = Next::NoneLeft;
+            let Some(label) = self.next_after(level, path.labels, binding, after) else {
+                let (next, then) = (after + 1, Next::NoneLeft);
                 return Run { count, next, then };
             };
             let atom = self.atom_of(level, label);
-            match self.judge_at(level.at, path, label, atom, binding) {
+            match self.judge_at(level.at, level.guard, path, label, atom, binding) {
                 Verdict::Misfit => {}
                 Verdict::Part => {
-                    let then = Next::Part(label);
+                    let (next, then) = (after + 1, Next::Part(label));
                     return Run { count, next, then };
                 }
                 Verdict::Whole => {
-                    let then = Next::Whole(label);
+                    let (next, then) = (after + 1, Next::Whole(label));
                     return Run { count, next, then };
                 }
             }
             binding.return_to(level.known);
-            next = label + 1;
+            after = label;
             count += 1;
         }
-        let then = Next::Enough;
+        let (next, then) = (after + 1, Next::Enough);
         Run { count, next, then }
     }
 
@@ -340,6 +348,8 @@ impl<'s, A: Allocator + Copy> Join<'s, A> {
         ensures same { level.new ≡ level.old }
         ensures keeps { Keeps binding.old binding.new }
     {
+        // For the proof: the labels of a store are numbered from 1.
+        let _given = self.view.active();
         let run = self.pass_run(level, from, most, instance, binding);
         let (count, stop) = match run.then {
             Next::Part(label) => (run.count + 1, Stop::Part(label)),
@@ -463,7 +473,7 @@ impl<'s, A: Allocator + Copy> Join<'s, A> {
             unreachable!();
         };
         binding.reset(self.rule.variables());
-        self.judge_at(at, Path::of(&[]), active, atom, binding)
+        self.judge_at(at, self.rule.guard(), Path::of(&[]), active, atom, binding)
     }
 
     /// Passes over the trials from the first one on, up to one that is whole, at most so many. All of them begin with the

@@ -45,7 +45,7 @@ becomes_instance-requires g c =
     let t = c.args.part.now in
     let p = placed_as c.args.last.now in
     let fit = fit_last t p (shape c.in-Some.head.now) (head g (goal.at.becomes_instance-requires g c).In-Some) c.args.binding.now c.requires.fit c.fit_head.new.binding c.if-not-fit_head.ensures.narrows in
-    (omega arith, (in_head_order (lengthened t p), heads_by (lengthened t p) c.requires.formed (full_more t p c.requires.full) c.rule-rule.result.now c.rule-rule.ensures.rule c.fit_head.new.binding fit))
+    (omega arith, (c.guard.ensures.tests, (in_head_order (lengthened t p), heads_by (lengthened t p) c.requires.formed (full_more t p c.requires.full) c.rule-rule.result.now c.rule-rule.ensures.rule c.fit_head.new.binding fit)))
 
 pub returns-then-not-fit_head-clause-misfit : goal.returns-then-not-fit_head-clause-misfit
 returns-then-not-fit_head-clause-misfit g c =

@@ -27,7 +27,7 @@ fit_head-requires g c =
 pub becomes_instance-requires : goal.becomes_instance-requires
 becomes_instance-requires g c =
     let at = (goal.at.becomes_instance-requires g c).In-Some in
-    (omega arith, (c.args.atom.now ∷ [], fit_alone c.args.rule.now c.args.head c.args.atom.now c.requires (shape c.in-Some.head.now) (head g at) c.reset.new.self c.fit_head.new.binding (free g at) c.if-not-fit_head.ensures.narrows))
+    (omega arith, (c.guard.ensures.tests, (c.args.atom.now ∷ [], fit_alone c.args.rule.now c.args.head c.args.atom.now c.requires (shape c.in-Some.head.now) (head g at) c.reset.new.self c.fit_head.new.binding (free g at) c.if-not-fit_head.ensures.narrows)))
 
 pub returns-then-not-fit_head-clause-misfit : goal.returns-then-not-fit_head-clause-misfit
 returns-then-not-fit_head-clause-misfit g c = λ t same places formed.

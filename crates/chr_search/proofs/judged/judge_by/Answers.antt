@@ -55,7 +55,7 @@ returns-then-placed-heads-clause-verdict g c =
 
 pub becomes_instance-requires : goal.becomes_instance-requires
 becomes_instance-requires g c =
-    (omega arith, (in_head_order c.args.trial.now, in_order g (goal.at.becomes_instance-requires g c).After-heads c.if-placed-heads.false))
+    (omega arith, (c.guard.ensures.tests, (in_head_order c.args.trial.now, in_order g (goal.at.becomes_instance-requires g c).After-heads c.if-placed-heads.false)))
 
 pub returns-then-becomes_instance-clause-whole : goal.returns-then-becomes_instance-clause-whole
 returns-then-becomes_instance-clause-whole g c = λ is.

@@ -1,9 +1,10 @@
 use Rattle.std.proofs.Common.{◌≡◌, true, false, Some, length, [], ◌∷◌, ◌++◌, refl, sym, subst, ◌∙◌, arith, length-append}
 use Rattle.chr_rule.specs.Parts.{shape}
 use Rattle.chr_rule.specs.Scope.{IsRule}
-use Rattle.chr_guard.specs.Bindings.{Narrows}
+use Rattle.chr_guard.specs.Bindings.{Keeps, Narrows}
 use Rattle.chr_guard.specs.Instances.{atom_under}
 use Rattle.chr_guard.specs.Matching.{IsFit, HeadsAre, IsInstanceUnder}
+use Rattle.chr_guard.proofs.Bindings.{keeps_both}
 use Rattle.chr_guard.proofs.Scoped.{IsPlaced}
 use Rattle.chr_guard.proofs.Matched.{head_placed, told_as}
 use Rattle.chr_model.specs.Stores.{Distinct}
@@ -62,6 +63,12 @@ narrowed g c =
       | else-at+else-not-fit_partner w ↦ subst P (sym w.narrowed-is) w.if-not-fit_partner.ensures.narrows
     ]
 
+kept : (g : _) (c : Joined-at g) → Keeps c.args.narrowed.now c.if-at.narrowed
+kept g c = elim c.if-at.branch [
+  | then-at w ↦ subst (Keeps c.args.narrowed.now) (sym w.narrowed-is) w.bind_partner.ensures.keeps
+  | else-at+else-not-fit_partner w ↦ subst (Keeps c.args.narrowed.now) (sym w.narrowed-is) w.fit_partner.ensures.keeps
+]
+
 -- its atom fits
 ready : (g : _) (c : Joined-at g) → IsReady (join_of c.args.self.now) (c.args.path.labels.now ++ c.args.label ∷ []) c.if-at.narrowed
 ready g c =
@@ -84,7 +91,16 @@ heads : (g : _) (c : Joined-at g) → (t : Trial) → IsTrialIn (join_of c.args.
 heads g c t i last = heads_fit _ _ t i (full g c t i last) _ (ready g c).fit
 
 pub becomes_instance-requires : goal.becomes_instance-requires
-becomes_instance-requires g c = (omega arith, (in_head_order c.requires.trial.0, heads g (goal.at.becomes_instance-requires g c).Joined-at _ c.requires.trial.1 c.if-not-at.false))
+becomes_instance-requires g c = (omega arith, (c.requires.guard, (in_head_order c.requires.trial.0, heads g (goal.at.becomes_instance-requires g c).Joined-at _ c.requires.trial.1 c.if-not-at.false)))
+
+pub returns-then-not-at-clause-keeps : goal.returns-then-not-at-clause-keeps
+returns-then-not-at-clause-keeps g c = kept g (goal.at.returns-then-not-at-clause-keeps g c).Joined-at
+
+pub returns-then-becomes_instance-clause-keeps : goal.returns-then-becomes_instance-clause-keeps
+returns-then-becomes_instance-clause-keeps g c = keeps_both c.args.narrowed.now c.if-at.narrowed c.becomes_instance.new.binding (kept g (goal.at.returns-then-becomes_instance-clause-keeps g c).Joined-at) c.becomes_instance.ensures.keeps
+
+pub returns-clause-keeps : goal.returns-clause-keeps
+returns-clause-keeps g c = keeps_both c.args.narrowed.now c.if-at.narrowed c.becomes_instance.new.binding (kept g (goal.at.returns-clause-keeps g c).Joined-at) c.becomes_instance.ensures.keeps
 
 pub returns-then-becomes_instance-clause-tried : goal.returns-then-becomes_instance-clause-tried
 returns-then-becomes_instance-clause-tried g c = λ t i.

@@ -1,4 +1,4 @@
-use Rattle.std.proofs.Common.{◌≡◌, ◌<◌, ◌≤◌, ℕ, List, [], ◌∷◌, ◌++◌, length, refl, sym, ap, subst, ◌∙◌, arith}
+use Rattle.std.proofs.Common.{◌≡◌, ◌<◌, ◌≤◌, ℕ, max, List, [], ◌∷◌, ◌++◌, length, refl, sym, ap, subst, ◌∙◌, arith}
 use Rattle.arrayvec.specs.ArrayVec.{ArrayVec}
 use Rattle.chr_search.specs.declared.passing.Next.{Next}
 use Rattle.chr_search.specs.declared.passing.Next.TheVariants.{Part, Whole, NoneLeft, Enough}
@@ -6,14 +6,18 @@ use Rattle.chr_search.specs.Tree.{Least}
 use Rattle.chr_search.specs.Trials.{MayFollow}
 use Rattle.chr_search.specs.Joined.{join_of}
 use Rattle.chr_search.specs.Passing.{AreWhole, ComesNext, IsBelow}
-use Rattle.chr_search.proofs.Asking.{room}
-use Rattle.chr_search.proofs.Below.{HasRun, misfits_passed, misfits_enough, misfits_rise, misfits_room, below_least, below_done, part_passed}
+use Rattle.chr_search.proofs.Asking.{room, follows_low}
+use Rattle.chr_search.proofs.Below.{HasRun, below_later, misfits_passed, misfits_enough, misfits_rise, misfits_room, below_least, below_done, part_passed}
 use Rattle.chr_search.proofs.join.Join.pass_level.Goals.{After-pass_run-run}
 use Rattle.chr_search.proofs.join.Join.pass_level.Goals as goal
 
+-- to look from 0 and from 1 are the same
+from_one : (g : _) (c : After-pass_run-run g) (place : List ℕ) → IsBelow (join_of c.args.self.now) c.args.instance.now.labels.items place c.args.from → IsBelow (join_of c.args.self.now) c.args.instance.now.labels.items place (max 1 c.args.from)
+from_one g c place = below_later _ _ place c.args.from (max 1 c.args.from) (omega arith) (λ x m low. omega (arith, follows_low _ _ c.active-given.ensures.labelled.given _ x m))
+
 -- the run of misfits
 run : (g : _) (c : After-pass_run-run g) (place : List ℕ) → IsBelow (join_of c.args.self.now) c.args.instance.now.labels.items place c.args.from → HasRun (join_of c.args.self.now) c.args.instance.now.labels.items place c.pass_run-run.result.count c.pass_run-run.result.next
-run g c place b = misfits_passed _ _ _ _ _ _ b c.pass_run-run.ensures.misfits
+run g c place b = misfits_passed _ _ _ _ _ _ (from_one g c place b) c.pass_run-run.ensures.misfits
 
 -- what comes after it
 comes : (g : _) (c : After-pass_run-run g) (next : Next) → c.pass_run-run.result.then ≡ next → ComesNext (join_of c.args.self.now) c.args.instance.now.labels.items c.pass_run-run.result.count c.args.most c.pass_run-run.result.next next c.pass_run-run.new.binding
@@ -27,7 +31,7 @@ push-requires g c =
 pub push-requires-in-Enough : goal.push-requires-in-Enough
 push-requires-in-Enough g c =
     let many : c.pass_run-run.result.count ≡ c.args.most = comes g (goal.at.push-requires-in-Enough g c).After-pass_run-run Enough c.in-Enough.is in
-    let r : length c.args.instance.now.labels.items < 6 = misfits_room _ c.requires.begins.plan _ _ c.args.from _ c.pass_run-run.ensures.misfits (omega (arith, c.requires.some)) in
+    let r : length c.args.instance.now.labels.items < 6 = misfits_room _ c.requires.begins.plan _ _ (max 1 c.args.from) _ c.pass_run-run.ensures.misfits (omega (arith, c.requires.some)) in
     (omega arith, subst (λ (v : ArrayVec ℕ). length v.items < 6) (sym c.pass_run-run.ensures.labels) r)
 
 -- after a part
@@ -38,7 +42,7 @@ returns-in-Part-clause-passes g c = λ place below.
     let label = c.in-Part.label in
     let run = run g at place below in
     let part = comes g at (Part label) c.in-Part.is in
-    let low : c.args.from ≤ c.pass_run-run.result.next = misfits_rise _ _ _ c.args.from _ c.pass_run-run.ensures.misfits in
+    let low : c.args.from ≤ c.pass_run-run.result.next = omega (arith, misfits_rise _ _ _ (max 1 c.args.from) _ c.pass_run-run.ensures.misfits) in
     let there : c.pass_run-run.result.next ≤ label = part.1.there in
     record {
       after = (path ++ label ∷ []) ++ 0 ∷ [];
@@ -73,9 +77,10 @@ returns-in-NoneLeft-clause-passes g c = λ place below.
 -- after misfits that are as many as were asked for
 pub returns-in-Enough-clause-passes : goal.returns-in-Enough-clause-passes
 returns-in-Enough-clause-passes g c = λ place below.
-    let many : c.pass_run-run.result.count ≡ c.args.most = comes g (goal.at.returns-in-Enough-clause-passes g c).After-pass_run-run Enough c.in-Enough.is in
+    let at = (goal.at.returns-in-Enough-clause-passes g c).After-pass_run-run in
+    let many : c.pass_run-run.result.count ≡ c.args.most = comes g at Enough c.in-Enough.is in
     record {
       after = c.args.instance.now.labels.items ++ c.pass_run-run.result.next ∷ [];
-      passes = misfits_enough _ _ place _ _ _ below c.pass_run-run.ensures.misfits (omega (arith, c.requires.some));
+      passes = misfits_enough _ _ place _ _ _ (from_one g at place below) c.pass_run-run.ensures.misfits (omega (arith, c.requires.some));
       stops = c.push-in-Enough.ensures.items ∙ ap (λ (v : ArrayVec ℕ). v.items ++ c.pass_run-run.result.next ∷ []) c.pass_run-run.ensures.labels;
     }
