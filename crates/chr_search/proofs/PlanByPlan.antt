@@ -1,5 +1,5 @@
 -- Searches that pass over trials plan by plan.
-use Rattle.std.proofs.Common.{◌≡◌, ℕ, zero, suc, ◌+◌, ◌<◌, ◌≤◌, true, List, [], ◌∷◌, map, take, length, Option, Some, None, slice_get, refl, sym, ◌∙◌, ap, subst, arith, ◌↔◌, ap₂}
+use Rattle.std.proofs.Common.{◌≡◌, ℕ, zero, suc, ◌+◌, ◌<◌, ◌≤◌, true, List, [], ◌∷◌, map, take, length, Option, Some, None, slice_get, refl, sym, ◌∙◌, ap, subst, arith, ◌↔◌}
 use Rattle.std.proofs.lemmas.Bool.Decides.{nat_tests}
 use Rattle.std.proofs.lemmas.Option.{slice_get_within}
 use Rattle.chr_value.specs.Atoms.{Value, Atom}
@@ -16,6 +16,7 @@ use Rattle.chr_search.specs.Trials.{Join, HasHeadPred, MayFollow, Space, join_in
 use Rattle.chr_search.specs.Verdicts.{Placed, Trial, label_at, labels_from, kept_labels, removed_labels, position}
 use Rattle.chr_search.specs.Partners.{HasPlan}
 use Rattle.chr_search.specs.Answers.{after_verdict}
+use Rattle.chr_search.specs.Reach.{SearchState}
 use Rattle.chr_search.specs.Passing.{IsTrialIn, HasTrials, AreWhole, PassesOneIn, PassesIn, PassesOne, Passes, IsWholeNext}
 use Rattle.chr_search.specs.PlanByPlan.{label_at_head, labels_at_heads, labels_in, IsJoinOf, IsJoinAt, HasComeTo, IsNextJoin}
 use Rattle.chr_search.proofs.Positions.{after_itself, after_by}
@@ -168,7 +169,8 @@ whole_at s r h j k m place n labels ls binding gone l whole w number_is kept_is 
       number_is = number_is ∙ sym t.number;
       kept_are = kept_is ∙ labels_are.0;
       removed_are = removed_is ∙ labels_are.1;
-      past_is = past_is ∙ ap₂ (λ (x : Join) p. record { label = x.active; place = past p }) k.is (sym is);
+      label_is = ap (λ (z : SearchState). z.label) past_is ∙ ap (λ (x : Join). x.active) k.is;
+      past_is = λ kept. ap (λ (z : SearchState). z.place) past_is ∙ ap past (sym is);
     }
 
 -- the join of a plan, and what comes of passing over its trials

@@ -5,6 +5,7 @@ use Rattle.chr_value.specs.Atoms.{Value}
 use Rattle.chr_value.specs.Stores.{atom_at}
 use Rattle.chr_rule.specs.Parts.{comparison}
 use Rattle.chr_guard.specs.Bindings.{AreKnown}
+use Rattle.chr_model.specs.Stores.{among}
 use Rattle.chr_search.specs.declared.judged.Verdict.{Verdict}
 use Rattle.chr_search.specs.declared.judged.Verdict.TheVariants.{Misfit, Part, Whole}
 use Rattle.chr_search.specs.declared.passing.End.{End}
@@ -213,7 +214,9 @@ pub record IsWholeNext (s : Space) (place : List ℕ) (w : CodeWhole)
   pub number_is : w.number ≡ trial.number
   pub kept_are : w.kept.items ≡ kept_labels trial
   pub removed_are : w.removed.items ≡ removed_labels trial
-  pub past_is : w.past ≡ record { label = s.active; place = past (position trial) }
+  pub label_is : w.past.label ≡ s.active
+  -- where the active label is removed its goal ends, and where the search stands is left open
+  pub past_is : among w.removed.items w.past.label ≡ false → w.past.place ≡ past (position trial)
 
 -- what comes at a place once trials were passed over: one that is whole, which is this instance;
 -- none; or perhaps more
