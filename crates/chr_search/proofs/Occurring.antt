@@ -1,5 +1,5 @@
 -- Trials where a program has heads of the active atom's predicate.
-use Rattle.std.proofs.Common.{◌≡◌, ℕ, ◌+◌, ◌-◌, ◌*◌, ◌<◌, Fits, w8, true, List, [], ◌∷◌, length, Option, Some, None, MatchOption, IfSome, slice_get, sym, ◌∙◌, ap, subst, arith}
+use Rattle.std.proofs.Common.{◌≡◌, ℕ, ◌+◌, ◌-◌, ◌*◌, ◌<◌, Fits, w8, true, List, [], ◌∷◌, length, Option, Some, None, MatchOption, slice_get, sym, ◌∙◌, ap, subst, arith}
 use Rattle.std.proofs.lemmas.Bool.Decides.{nat_tests}
 use Rattle.chr_value.specs.declared.atom.Pred.{Pred}
 use Rattle.chr_value.proofs.Chosen.{some_is}
@@ -75,10 +75,6 @@ join_at_occurrence s p a ps r h x y o as_join (Some j) k = record {
   come = come_to_occurrence s p a ps r h x y o;
   join = join_there s p a ps x y (as_join j) o.occurs k;
 }
-
-pub if_there : {X : Type 0} {A : Type 0} (found : Option X) → A → IfSome found (λ _. A)
-if_there None a = tt
-if_there (Some x) a = a
 
 -- a walk through the plans that goes on from one: the next head's number fits, and it is nearer to the end
 pub head_fits : (s : Space) (place : List ℕ) (r h : ℕ) (j : Join) → HasJoin s place r h j → Fits w8 (h + 1)

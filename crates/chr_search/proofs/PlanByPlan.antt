@@ -1,24 +1,25 @@
 -- Searches that pass over trials plan by plan.
-use Rattle.std.proofs.Common.{◌≡◌, ℕ, zero, suc, ◌+◌, ◌<◌, ◌≤◌, true, List, [], ◌∷◌, map, take, length, Option, Some, None, slice_get, refl, sym, ◌∙◌, ap, subst, arith, ◌↔◌}
+use Rattle.std.proofs.Common.{◌≡◌, ℕ, zero, suc, ◌+◌, ◌<◌, ◌≤◌, Bool, true, false, ◌==◌, if◌then◌else◌, List, [], ◌∷◌, map, take, length, Option, Some, None, slice_get, refl, sym, ◌∙◌, ap, subst, ap₂, arith, ◌↔◌, inl, inr, true≢false, length-append}
+use Rattle.std.proofs.lemmas.Bool.{cases_lt}
 use Rattle.std.proofs.lemmas.Bool.Decides.{nat_tests}
 use Rattle.std.proofs.lemmas.Option.{slice_get_within}
 use Rattle.chr_value.specs.Atoms.{Value, Atom}
 use Rattle.chr_rule.specs.Rules.{RuleAtom, Simpagation, head_at}
-use Rattle.chr_model.specs.Stores.{atom_at}
-use Rattle.chr_plan.specs.Orders.{heads_of, first_step}
-use Rattle.chr_plan.specs.Plans.{ArePlans}
+use Rattle.chr_model.specs.Stores.{atom_at, among}
+use Rattle.chr_plan.specs.Orders.{heads_of, first_step, IsPlan}
+use Rattle.chr_plan.specs.Plans.{PlanList, ArePlans}
 use Rattle.chr_plan.specs.declared.order.Step.{Step}
 use Rattle.chr_store.specs.Labels.{LabelledStore, IsLabelled}
+use Rattle.chr_store.specs.Views.{Seen}
 use Rattle.chr_search.specs.declared.search.Whole.{Whole as CodeWhole}
 use Rattle.chr_search.specs.Positions.{at_or_after, past}
 use Rattle.chr_search.specs.Tree.{Grows, Least, NoneBeyond}
-use Rattle.chr_search.specs.Trials.{Join, HasHeadPred, MayFollow, Space, join_in, IsPlanned, Child, IsTrial, IsNext, NoneLeft}
+use Rattle.chr_search.specs.Trials.{Join, HasHeadPred, MayFollow, Space, older, join_in, IsPlanned, Child, IsTrial, IsNext, NoneLeft}
 use Rattle.chr_search.specs.Verdicts.{Placed, Trial, label_at, labels_from, kept_labels, removed_labels, position}
 use Rattle.chr_search.specs.Partners.{HasPlan}
 use Rattle.chr_search.specs.Answers.{after_verdict}
-use Rattle.chr_search.specs.Reach.{SearchState}
 use Rattle.chr_search.specs.Passing.{IsTrialIn, HasTrials, AreWhole, PassesOneIn, PassesIn, PassesOne, Passes, IsWholeNext}
-use Rattle.chr_search.specs.PlanByPlan.{label_at_head, labels_at_heads, labels_in, IsJoinOf, IsJoinAt, HasComeTo, IsNextJoin}
+use Rattle.chr_search.specs.PlanByPlan.{label_at_head, labels_at_heads, labels_in, IsJoinOf, IsJoinAt, HasComeTo}
 use Rattle.chr_search.proofs.Positions.{after_itself, after_by}
 use Rattle.chr_search.proofs.Plans.{heads_in, planned}
 use Rattle.chr_search.proofs.Tree.{least_deep}
@@ -152,14 +153,41 @@ unfolding gone_at
 gone_some s r h j k m place zero labels c p some = absurd (omega arith)
 gone_some s r h j k m place (suc n) labels c p some = (gone_at s r h j k m place (suc n) labels c p).passed
 
+-- a label at one of the next n heads is among those at them
+among_heads : (order : List Step) (ls : List ℕ) (first n h : ℕ) → first ≤ h → h < first + n → among (labels_at_heads order ls first n) (label_at_head order ls h) ≡ true
+among_heads order ls first zero h low high = absurd (omega arith)
+among_heads order ls first (suc n) h low high = elim (cases_lt first h) [
+  | inl less ↦ let rest = among_heads order ls (suc first) n h less (omega arith) in grind (arith, nat_tests)
+  | inr more ↦ let same : first ≡ h = omega arith in grind (arith, nat_tests)
+]
+
+-- The active label of a trial stands at the head whose plan it is, so where that label isn't at a removed head, the head is a
+-- kept one.
+at_own_head : (rule : Simpagation ℕ) (h : ℕ) (order : List Step) (l : ℕ) (ls : List ℕ) → IsPlan (heads_of rule) h order → label_at_head order (l ∷ ls) h ≡ l
+at_own_head rule h order l ls p =
+    let same : (h == h) ≡ true = grind (arith, nat_tests) in
+    ap (λ (steps : List Step). label_at_head steps (l ∷ ls) h) p.first ∙ ap (λ (b : Bool). if b then l else label_at_head p.rest ls h) same
+
+kept_head : (s : Space) (r h : ℕ) (rule : Simpagation ℕ) (order : List Step) → Makes s rule order r h → (ls : List ℕ) → 1 ≤ length ls → Grows (MayFollow (join_in s rule order)) [] ls → among (labels_at_heads order ls (suc (length rule.kept)) (length rule.removed)) s.active ≡ false → h ≤ length rule.kept
+kept_head s r h rule order m [] some g away = absurd (omega arith)
+kept_head s r h rule order m (l ∷ ls) some g away =
+    let q = planned s.rules s.plans m.plans r h rule order m.planned.rule_is m.planned.order_is in
+    let there = among_heads order (l ∷ ls) (suc (length rule.kept)) (length rule.removed) h in
+    let active : label_at_head order (l ∷ ls) h ≡ s.active = at_own_head rule h order l ls q.plan ∙ g.0.turn in
+    elim (cases_lt (length rule.kept) h) [
+      | inl less ↦ absurd (true≢false (sym (there less (omega (arith, q.to, length-append rule.kept rule.removed))) ∙ ap (among (labels_at_heads order (l ∷ ls) (suc (length rule.kept)) (length rule.removed))) active ∙ away))
+      | inr within ↦ within
+    ]
+
 -- the trial that is whole
 pub whole_at : (s : Space) (r h : ℕ) (j : Join) → IsJoinAt s r h j → Makes s j.rule j.order r h → (place : List ℕ) (n : ℕ) (labels ls : List ℕ) (binding : List (Option (Value ℕ))) → (gone : HasGone s place r h n labels) → Least (MayFollow j) 1 [] labels ls → AreWhole j ls binding → (w : CodeWhole) → w.number ≡ r
-    → w.kept.items ≡ labels_at_heads j.order ls 1 (length j.rule.kept) → w.removed.items ≡ labels_at_heads j.order ls (suc (length j.rule.kept)) (length j.rule.removed) → w.past ≡ record { label = j.active; place = past (r ∷ h ∷ ls) } → IsWholeNext s gone.after w binding
-whole_at s r h j k m place n labels ls binding gone l whole w number_is kept_is removed_is past_is =
+    → w.kept.items ≡ labels_at_heads j.order ls 1 (length j.rule.kept) → w.removed.items ≡ labels_at_heads j.order ls (suc (length j.rule.kept)) (length j.rule.removed) → w.past.label ≡ j.active → (h ≤ length j.rule.kept → w.past.place ≡ past (r ∷ h ∷ ls)) → IsWholeNext s gone.after w binding
+whole_at s r h j k m place n labels ls binding gone l whole w number_is kept_is removed_is label_is past_is =
     let g = subst (λ (x : Join). (1 ≤ length ls) × Grows (MayFollow x) [] ls) k.is (grown j labels ls l) in
     let t = made_of s j.rule j.order r h m ls g.0 g.1 in
     let is : position t.trial ≡ r ∷ h ∷ ls = position_made s j.rule j.order r h ls t in
     let labels_are = at_heads (join_in s j.rule j.order) ls t.trial t.is in
+    let active : w.past.label ≡ s.active = label_is ∙ ap (λ (x : Join). x.active) k.is in
     record {
       trial = t.trial;
       next = subst (IsNext s gone.after) (sym is) (next_in_plan s gone.after r h labels j gone.alike m.planned k.is ls l);
@@ -169,8 +197,8 @@ whole_at s r h j k m place n labels ls binding gone l whole w number_is kept_is 
       number_is = number_is ∙ sym t.number;
       kept_are = kept_is ∙ labels_are.0;
       removed_are = removed_is ∙ labels_are.1;
-      label_is = ap (λ (z : SearchState). z.label) past_is ∙ ap (λ (x : Join). x.active) k.is;
-      past_is = λ kept. ap (λ (z : SearchState). z.place) past_is ∙ ap past (sym is);
+      label_is = active;
+      past_is = λ away. past_is (kept_head s r h j.rule j.order m ls g.0 g.1 (ap₂ among (sym removed_is) (sym active) ∙ away)) ∙ ap past (sym is);
     }
 
 -- the join of a plan, and what comes of passing over its trials
@@ -206,25 +234,29 @@ pub record HasJoin (s : Space) (place : List ℕ) (r h : ℕ) (j : Join) : Type 
   pub join : IsJoinAt s r h j
   pub makes : Makes s j.rule j.order r h
 
+pub has_join : (s : Space) (place : List ℕ) (r h : ℕ) (j : Join) → HasComeTo s place r h → IsJoinAt s r h j → ArePlans s.rules s.plans → (store : LabelledStore) → store.entries ≡ s.store → IsLabelled store → HasJoin s place r h j
+has_join s place r h j c k ps store entries labelled = record {
+  come = c;
+  join = k;
+  makes = record {
+    planned = k.planned;
+    plans = ps;
+    store = store;
+    entries = entries;
+    labelled = labelled;
+    scoped = k.plan.scoped;
+    number = (rule_low s.rules r j.rule k.planned.rule_is).0;
+    head = head_low s.plans r h j.order k.planned.order_is;
+  };
+}
+
+-- the join of a rule and a plan in a view that is the same as one for a label
+pub joined : (rules : List (Simpagation ℕ)) (plans : PlanList) (v seen : Seen) (l : ℕ) (rule : Simpagation ℕ) (order : List Step) → v ≡ seen → seen.active ≡ l → join_in (older rules plans v.store.entries v.active) rule order ≡ join_in (older rules plans seen.store.entries l) rule order
+joined rules plans v seen l rule order same active = ap (λ (x : Seen). join_in (older rules plans x.store.entries x.active) rule order) same ∙ ap (λ (x : ℕ). join_in (older rules plans seen.store.entries x) rule order) active
+
 -- as far as another search has come, which begins where this one stands
-pub has_join : (s t : Space) → t ≡ s → (place : List ℕ) (r h x y : ℕ) (j : Join) → HasComeTo s place r h → IsNextJoin t r h x y j → ArePlans s.rules s.plans → (store : LabelledStore) → store.entries ≡ s.store → IsLabelled store → HasJoin s place x y j
-has_join s t e place r h x y j c n ps store entries labelled =
-    let next = subst (λ (z : Space). IsNextJoin z r h x y j) e n in
-    let p = next.join.planned in
-    record {
-      come = record { later = after_by (take 2 place) (r ∷ h ∷ []) (x ∷ y ∷ []) c.later next.come.later; none = λ u i e. next.come.none u i (c.none u i e) };
-      join = next.join;
-      makes = record {
-        planned = p;
-        plans = ps;
-        store = store;
-        entries = entries;
-        labelled = labelled;
-        scoped = next.join.plan.scoped;
-        number = (rule_low s.rules x j.rule p.rule_is).0;
-        head = head_low s.plans x y j.order p.order_is;
-      };
-    }
+pub come_on : (s : Space) (place : List ℕ) (r h x y : ℕ) → HasComeTo s place r h → HasComeTo s (r ∷ h ∷ []) x y → HasComeTo s place x y
+come_on s place r h x y c next = record { later = after_by (take 2 place) (r ∷ h ∷ []) (x ∷ y ∷ []) c.later next.later; none = λ u i e. next.none u i (c.none u i e) }
 
 -- A search that has passed over so many trials from a place on and has come to the plan of a rule and a head. In that
 -- and the later ones it looks from where the place stands there.
@@ -243,14 +275,22 @@ none_ahead [] r h x y l k = refl
 none_ahead (a ∷ []) r h x y l k = refl
 none_ahead (a ∷ b ∷ ls) r h x y l k = grind (arith, nat_tests)
 
-pub reached_next : (s : Space) (place : List ℕ) (n r h x y : ℕ) (j : Join) (more : ℕ) (labels : List ℕ) → (k : HasReached s place n r h) → at_or_after (r ∷ h ∷ []) (x ∷ y ∷ []) ≡ true → HasJoin s k.at x y j → HasGone s k.at x y more labels → NoneBeyond (MayFollow j) 1 [] labels → HasReached s place (n + more) x (y + 1)
-reached_next s place n r h x y j more labels k later i gone none = record {
+pub reached_on : (s : Space) (place : List ℕ) (n r h x y : ℕ) → HasReached s place n r h → HasComeTo s (r ∷ h ∷ []) x y → HasReached s place n x y
+reached_on s place n r h x y k next = record {
+  at = k.at;
+  passed = k.passed;
+  come = come_on s k.at r h x y k.come next;
+  same = λ u v e. k.same u v (after_by (r ∷ h ∷ []) (x ∷ y ∷ []) (u ∷ v ∷ []) next.later e);
+}
+
+pub reached_past : (s : Space) (place : List ℕ) (n r h : ℕ) (j : Join) (more : ℕ) (labels : List ℕ) → (k : HasReached s place n r h) → HasJoin s k.at r h j → HasGone s k.at r h more labels → NoneBeyond (MayFollow j) 1 [] labels → HasReached s place (n + more) r (h + 1)
+reached_past s place n r h j more labels k i gone none = record {
   at = gone.after;
   passed = pass_more s n more place k.at gone.after k.passed gone.passed;
-  come = come_to_next_head s gone.after x y labels j gone.come gone.alike i.join.planned i.join.is none;
+  come = come_to_next_head s gone.after r h labels j gone.come gone.alike i.join.planned i.join.is none;
   same = λ u v e.
-      let ahead : at_or_after (x ∷ y ∷ []) (u ∷ v ∷ []) ≡ true = grind (arith, nat_tests) in
-      k.same u v (after_by (r ∷ h ∷ []) (x ∷ y ∷ []) (u ∷ v ∷ []) later ahead) ∙ none_ahead k.at x y u v i.come.later e ∙ sym (none_ahead gone.after x y u v gone.come.later e);
+      let ahead : at_or_after (r ∷ h ∷ []) (u ∷ v ∷ []) ≡ true = grind (arith, nat_tests) in
+      k.same u v ahead ∙ none_ahead k.at r h u v i.come.later e ∙ sym (none_ahead gone.after r h u v gone.come.later e);
 }
 
 -- the least trial of a plan to which a search has come, and on where it has none

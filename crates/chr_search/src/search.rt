@@ -1,12 +1,13 @@
 //! Searches.
 ghost use Rattle.std.specs.Prelude.{◌≡◌, ◌↔◌, ℕ, suc, ◌+◌, ◌-◌, ◌≤◌, true, List, ◌∷◌, ◌++◌, [], length, slice_set, Some, MatchBool, MatchOption, IfOk, IfSome, IsTrue};
 ghost use Rattle.chr_value.specs.Stores.{atom_at, greatest_label};
+ghost use Rattle.chr_model.specs.Stores.{Store as Entries};
 ghost use Rattle.chr_plan.specs.Plans.{ArePlans};
 ghost use Rattle.chr_store.specs.Labels.{entered};
 ghost use Rattle.chr_search.specs.declared.judged.Verdict.TheVariants as verdicts;
 ghost use Rattle.chr_search.specs.declared.search.Then.TheVariants as thens;
 ghost use Rattle.chr_search.specs.Positions.{at_or_after, begins, beginning, past, front};
-ghost use Rattle.chr_search.specs.Trials.{Space, older, IsTrial, IsNext, NoneLeft};
+ghost use Rattle.chr_search.specs.Trials.{Space, join_in, older, IsTrial, IsNext, NoneLeft};
 ghost use Rattle.chr_search.specs.Answers.{IsAnswer, IsAnswerBehind, IsToldNext, after_judging, after_verdict};
 ghost use Rattle.chr_search.specs.Verdicts.{Trial as TrialView, IsPart, position as position_of};
 ghost use Rattle.chr_search.specs.Fronts.{ComeAfter};
@@ -22,8 +23,8 @@ use crate::position::Position;
 use crate::trial::Trial;
 use chr_guard::Binding;
 use chr_log::Labels;
-use chr_plan::Plans;
-use chr_rule::{HeadsFrom, Program};
+use chr_plan::{Plans, Step};
+use chr_rule::{HeadsFrom, Program, Rule};
 use chr_store::{Label, Store, View};
 use chr_value::Atom;
 use std::alloc::{AllocError, Allocator};
@@ -45,7 +46,7 @@ pub struct Whole {
     pub kept: Labels,
     /// The labels at the removed heads, in head order.
     pub removed: Labels,
-    /// The search past the trial.
+    /// The search past the trial. Where its label is one of those removed, how far its trials are ruled out is left open.
     pub past: Search,
     /// The number of its rule in the program.
     pub number: u16,
@@ -134,7 +135,8 @@ impl Instance {
         ensures number { self.new.whole.number ≡ walk.now.rule }
         ensures kept { self.new.whole.kept.items ≡ labels_at_heads join.now.order.now self.old.labels.items 1 (length join.now.rule.now.kept) }
         ensures removed { self.new.whole.removed.items ≡ labels_at_heads join.now.order.now self.old.labels.items (suc (length join.now.rule.now.kept)) (length join.now.rule.now.removed) }
-        ensures past { self.new.whole.past ≡ record { label = join.now.view.active; place = past (walk.now.rule ∷ walk.now.head ∷ self.old.labels.items) } }
+        ensures label { self.new.whole.past.label ≡ join.now.view.active }
+        ensures past { walk.now.head ≤ length join.now.rule.now.kept → self.new.whole.past.place ≡ past (walk.now.rule ∷ walk.now.head ∷ self.old.labels.items) }
     {
         let labels = self.labels.as_slice();
         let whole = &mut self.whole;
@@ -144,8 +146,7 @@ impl Instance {
         let kept = whole.kept.as_mut_slice();
         let removed = whole.removed.as_mut_slice();
         put_at_heads(kept, removed, join, labels);
-        whole.past.label = join.view.active();
-        whole.past.position.set_past(walk.rule, walk.head, labels);
+        whole.past.set_past(join, walk, labels);
     }
 }
 
@@ -226,7 +227,43 @@ impl Search {
         self.label == other.label && self.position.is_same(&other.position)
     }
 
-    /// The plan of a head of a rule. None where there is none.
+    /// Becomes that of the join's active label, past the trial of these labels at the rule and the head at which a walk stands.
+    /// Where that is a removed head the label goes, and how far its trials are ruled out is left open: no search goes on there.
+    fn set_past<A: Allocator + Copy>(
+        &mut self,
+        join: &Join<'_, A>,
+        walk: &Walk<'_>,
+        labels: &[Label],
+    )
+        requires rule { 1 ≤ walk.now.rule }
+        requires head { 1 ≤ walk.now.head }
+        requires trial { (t : TrialView) × IsTrialIn (join_of join.now) labels.now t }
+        ensures label { self.new.label ≡ join.now.view.active }
+        ensures past { walk.now.head ≤ length join.now.rule.now.kept → self.new.place ≡ past (walk.now.rule ∷ walk.now.head ∷ labels.now) }
+    {
+        self.label = join.view.active();
+        if usize::from(walk.head) <= join.rule.kept().len() {
+            self.position.set_past(walk.rule, walk.head, labels);
+        }
+    }
+
+    /// A rule, and the plan of a head of it. None where there is none.
+    #[inline(always)]
+    fn plan_at<'s, A: Allocator + Copy>(
+        program: &'s Program<A>,
+        plans: &'s Plans<A>,
+        rule: u16,
+        head: u8,
+    ) -> Option<(&'s Rule<A>, &'s [Step])>
+        requires { ArePlans program.now plans.now }
+        ensures { (store : Entries) (active : ℕ) → let s = older program.now plans.now store active in MatchOption result (IsUnplanned s rule head) (λ p. IsJoinOf s rule head (join_in s p.0.now p.1.now)) }
+    {
+        let order = plans.plan(usize::from(rule), head)?;
+        let found = program.rule(usize::from(rule))?;
+        Some((found, order))
+    }
+
+    /// The join of a head of a rule. None where there is none.
     #[inline(always)]
     pub(crate) fn join_at<'s, A: Allocator + Copy>(
         program: &'s Program<A>,
@@ -238,10 +275,7 @@ impl Search {
         requires { ArePlans program.now plans.now }
         ensures { let s = older program.now plans.now view.now.store.entries view.now.active in MatchOption result (IsUnplanned s rule head) (λ join. IsJoinOf s rule head (join_of join)) }
     {
-        let Some(order) = plans.plan(usize::from(rule), head) else {
-            return None;
-        };
-        let Some(found) = program.rule(usize::from(rule)) else {
+        let Some((found, order)) = Search::plan_at(program, plans, rule, head) else {
             return None;
         };
         Some(Join {
@@ -251,30 +285,29 @@ impl Search {
         })
     }
 
-    /// The plan of the next head with the active atom's predicate, from where the walk stands on, and the walk goes there.
-    /// None where there is none.
+    /// The rule and the plan of the next head with the active atom's predicate, from where the walk stands on, and the walk
+    /// goes there. None where there is none.
     #[inline(always)]
-    fn next_join<'s, A: Allocator + Copy>(
+    fn next_plan<'s, A: Allocator + Copy>(
         program: &'s Program<A>,
         plans: &'s Plans<A>,
-        view: &View<'s, A>,
         walk: &mut Walk<'s>,
-    ) -> Option<Join<'s, A>>
-        requires plans { ArePlans program.now plans.now }
-        requires ahead { AreAhead (older program.now plans.now view.now.store.entries view.now.active) walk.old.rule walk.old.head walk.old.heads }
-        ensures next { let s = older program.now plans.now view.now.store.entries view.now.active in MatchOption result (NoneLeft s (walk.old.rule ∷ walk.old.head ∷ [])) (λ join. IsNextJoin s walk.old.rule walk.old.head walk.new.rule walk.new.head (join_of join)) }
-        ensures ahead { IfSome result (λ _. AreAhead (older program.now plans.now view.now.store.entries view.now.active) walk.new.rule (walk.new.head + 1) walk.new.heads) }
+    ) -> Option<(&'s Rule<A>, &'s [Step])>
+        requires { ArePlans program.now plans.now }
+        ensures next { (store : Entries) (active : ℕ) → let s = older program.now plans.now store active in AreAhead s walk.old.rule walk.old.head walk.old.heads → MatchOption result (NoneLeft s (walk.old.rule ∷ walk.old.head ∷ [])) (λ p. IsNextJoin s walk.old.rule walk.old.head walk.new.rule walk.new.head (join_in s p.0.now p.1.now)) }
+        ensures ahead { (store : Entries) (active : ℕ) → let s = older program.now plans.now store active in AreAhead s walk.old.rule walk.old.head walk.old.heads → IfSome result (λ _. AreAhead s walk.new.rule (walk.new.head + 1) walk.new.heads) }
     {
         let Some(found) = walk.heads.next() else {
             return None;
         };
         walk.rule = found.0;
         walk.head = found.1;
-        Search::join_at(program, plans, view, found.0, found.1)
+        Search::plan_at(program, plans, found.0, found.1)
     }
 
     /// The labels from which the trials of the plan are looked for at which a walk stands: those of the position, where
     /// that is one of the same plan, and else none.
+    #[inline(always)]
     fn labels_in(&self, walk: &Walk<'_>) -> &[Label]
         ensures { result.now ≡ labels_in self.now.place walk.now.rule walk.now.head }
     {
@@ -288,6 +321,7 @@ impl Search {
 
     /// Where a walk to the next trial begins: at the position's rule and head, or at the head after that where the position is
     /// past the active label there, since each trial at a head has that label first.
+    #[inline(always)]
     fn first_walk<'s, A: Allocator + Copy>(
         &self,
         program: &'s Program<A>,
@@ -326,7 +360,9 @@ impl Search {
         // For the proof: the labels of a store are at most the greatest.
         let _given = view.active();
         let mut walk = self.first_walk(program, atom);
-        while let Some(join) = Search::next_join(program, plans, view, &mut walk) {
+        while let Some((rule, order)) = Search::next_plan(program, plans, &mut walk) {
+            let view = view.copy();
+            let join = Join { rule, order, view };
             if join.find(self.labels_in(&walk), &mut found.labels) {
                 found.rule = walk.rule;
                 found.head = walk.head;
@@ -563,6 +599,7 @@ impl Search {
     }
 
     /// Passes over the trials of the plan at which a walk stands, at or after the position, at most so many.
+    #[inline(always)]
     fn pass_in_plan<'s, A: Allocator + Copy>(
         &self,
         join: &Join<'s, A>,
@@ -584,6 +621,7 @@ impl Search {
     }
 
     /// Passes over trials as [`pass_over`](Search::pass_over) does, in a view for its label, which has this atom.
+    #[inline(always)]
     fn pass_in<'s, A: Allocator + Copy>(
         &mut self,
         program: &'s Program<A>,
@@ -610,7 +648,13 @@ impl Search {
         // For the proof: the labels of a store are at most the greatest.
         let _given = view.active();
         let mut walk = self.first_walk(program, atom);
-        while let Some(join) = Search::next_join(program, plans, view, &mut walk) {
+        let Some((rule, order)) = Search::next_plan(program, plans, &mut walk) else {
+            let then = Then::Done;
+            return Passed { count, then };
+        };
+        let view = view.copy();
+        let mut join = Join { rule, order, view };
+        loop {
             let passed = self.pass_in_plan(&join, &walk, most - count, instance, bound);
             count += passed.count;
             match passed.end {
@@ -627,9 +671,13 @@ impl Search {
                     return Passed { count, then };
                 }
             }
+            let Some((rule, order)) = Search::next_plan(program, plans, &mut walk) else {
+                let then = Then::Done;
+                return Passed { count, then };
+            };
+            join.rule = rule;
+            join.order = order;
         }
-        let then = Then::Done;
-        Passed { count, then }
     }
 
     /// Passes over the next trials up to one that is whole, at most so many: as if each of them had been asked for, judged,

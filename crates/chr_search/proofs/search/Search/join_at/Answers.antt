@@ -1,20 +1,13 @@
-use Rattle.std.proofs.Common.{◌≡◌, Some, refl, sym, ap, subst, ◌∙◌}
-use Rattle.chr_rule.specs.Rules.{rule_at}
-use Rattle.chr_plan.specs.Plans.{plan_at}
+use Rattle.std.proofs.Common.{sym, subst}
 use Rattle.chr_store.specs.Views.{Seen}
-use Rattle.chr_search.specs.Trials.{Space, older, join_in, IsPlanned}
+use Rattle.chr_search.specs.Trials.{older, join_in}
 use Rattle.chr_search.specs.PlanByPlan.{IsJoinOf}
-use Rattle.chr_search.proofs.Descents.{plan_of}
 use Rattle.chr_search.proofs.search.Search.join_at.Goals as goal
+
+pub returns-in_default : goal.returns-in_default
+returns-in_default g c = c.in_default.ensures c.args.view.now.store.entries c.args.view.now.active
 
 pub returns : goal.returns
 returns g c =
-    let s : Space = older c.args.program.now c.args.plans.now c.args.view.now.store.entries c.args.view.now.active in
-    let rule = c.deref.result.now in
-    let order = c.in-Some.order.now in
-    let p : IsPlanned s c.args.rule c.args.head rule order = record {
-      rule_is = subst (λ n. rule_at c.args.program.now n ≡ Some rule) c.from-2.ensures (sym c.in-Some-rule.ensures.rule ∙ ap (λ x. Some x) (sym c.deref.ensures));
-      order_is = subst (λ n. plan_at c.args.plans.now n c.args.head ≡ Some order) c.from.ensures (sym c.in-Some.ensures);
-    } in
-    subst (λ (v : Seen). IsJoinOf s c.args.rule c.args.head (join_in (older c.args.program.now c.args.plans.now v.store.entries v.active) rule order)) (sym c.copy.ensures)
-    (record { planned = p; is = refl; plan = plan_of s c.requires c.rule.ensures.valid c.args.rule c.args.head rule order p })
+    let v = c.args.view.now in
+    subst (λ (x : Seen). IsJoinOf (older c.args.program.now c.args.plans.now v.store.entries v.active) c.args.rule c.args.head (join_in (older c.args.program.now c.args.plans.now x.store.entries x.active) c.in-Some.found.now c.in-Some.order.now)) (sym c.copy.ensures) (c.in-Some.ensures v.store.entries v.active)
