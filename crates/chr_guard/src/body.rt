@@ -180,6 +180,7 @@ fn bind_body<A: Allocator + Copy>(
 }
 
 /// The same where the variables of the rule's heads are bound.
+#[inline(always)]
 pub(crate) fn complete_body<A: Allocator + Copy>(
     rule: &Rule<A>,
     binding: &mut Binding<'_, A>,
