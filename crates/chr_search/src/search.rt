@@ -127,6 +127,7 @@ impl Instance {
     }
 
     /// Sets the trial to that of the labels, one for each head, by the rule and the head at which a walk stands.
+    #[inline(always)]
     fn set_whole<A: Allocator + Copy>(&mut self, join: &Join<'_, A>, walk: &Walk<'_>)
         requires rule { 1 ≤ walk.now.rule }
         requires head { 1 ≤ walk.now.head }
@@ -229,6 +230,7 @@ impl Search {
 
     /// Becomes that of the join's active label, past the trial of these labels at the rule and the head at which a walk stands.
     /// Where that is a removed head the label goes, and how far its trials are ruled out is left open: no search goes on there.
+    #[inline(always)]
     fn set_past<A: Allocator + Copy>(
         &mut self,
         join: &Join<'_, A>,
