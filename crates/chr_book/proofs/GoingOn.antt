@@ -51,7 +51,7 @@ use Rattle.chr_book.proofs.Turns.{at_place, place_is, holds_at, holds_set, set_t
 use Rattle.chr_book.specs.declared.rounds.Last.{Last}
 use Rattle.chr_book.specs.declared.rounds.Rounds.{Rounds}
 use Rattle.chr_book.specs.Books.{book_of}
-use Rattle.chr_book.specs.Firings.{MakesFound, EndsRounds, MakesBody, EntersGoal, FiresWaiting, EndsStart, fires, enters, EntersOrStays, gone_on}
+use Rattle.chr_book.specs.Firings.{MakesFound, EndsRounds, MakesBody, EntersGoal, FiresWaiting, DropsWaiting, EndsStart, fires, enters, EntersOrStays, gone_on}
 use Rattle.chr_book.proofs.Fired.{rest_back, FiresWhole, IsWholeOf, next_is_live, with_fired, fires_there, fires_whole, next_fires}
 use Rattle.chr_book.specs.declared.rounds.Last.TheVariants as lasts
 
@@ -364,6 +364,14 @@ goes_in seat t place a ts log st now entries after new waits h e = record {
 pub entered_label : {seat t : ℕ} {place : List ℕ} {a : Atom ℕ} {ts now : List Ticket} {log es : List (Entry ℕ)} {st store : LabelledStore} → EntersGoal seat t place a ts log st now es store → state_of ts t ≡ Waiting → (ticket_at now t).goal ≡ Numbered st.next
 entered_label {seat} {t} {place} {a} {ts} {now} {log} {es} {st} {store} h waits =
     ap (λ (xs : List Ticket). (ticket_at xs t).goal) h.tickets ∙ ap (λ (x : Ticket). x.goal) (ticket_same ts t (going_on place (activated_by seat st.next)) (waiting_is ts t waits).within)
+
+-- a goal that is dropped as it enters has entered, and then its rounds have ended
+pub drops_entered : (seat t : ℕ) (place : List ℕ) (a : Atom ℕ) (w : Whole) (ts : List Ticket) (log : List (Entry ℕ)) (st : LabelledStore) (new : List Ticket) (entries : List (Entry ℕ)) (after : LabelledStore) → DropsWaiting seat t a ts log st new entries after → EndsStart seat t place a thens.Done w lasts.Dropped ts log st new entries after
+drops_entered seat t place a w ts log st new entries after h =
+    let x : Ticket = going_on place (activated_by seat st.next) in
+    let activation : List (Entry ℕ) = record { event = Activate t st.next; seat = seat } ∷ [] in
+    enters (slice_set ts t x) (log ++ activation) after (record { tickets = refl; logged = refl; store = h.store })
+    (refl, h.tickets ∙ sym (set-set ts t x ended), h.logged ∙ sym (append_assoc log activation (record { event = Drop t; seat = seat } ∷ [])), refl)
 
 -- ---- answers
 
