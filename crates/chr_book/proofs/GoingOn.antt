@@ -143,7 +143,7 @@ fires_last : (b : BookState) (seat t l : ℕ) (place : List ℕ) (rule : Simpaga
 fires_last b seat t l place rule w binding f log tickets k h is next of fw =
     let j : Judgement = record { trial = next.trial; verdict = verdicts.Whole } in
     let comes : ComesNext b seat t next.trial = record { label = l; holds = h; is = record { next = subst (λ p. IsNext (space_of b l) p (position next.trial)) (sym is) next.next; is = next.is; formed = next.formed } } in
-    let whole : IsWholeOf next.trial l rule w binding = record { under = next.under; rule_is = some_is rule next.trial.rule (sym of ∙ ap (rule_at b.rules) next.number_is ∙ next.is.rule_is); number = next.number_is; kept = next.kept_are; removed = next.removed_are; past = next.past_is } in
+    let whole : IsWholeOf next.trial l rule w binding = record { under = next.under; rule_is = some_is rule next.trial.rule (sym of ∙ ap (rule_at b.rules) next.number_is ∙ next.is.rule_is); number = next.number_is; kept = next.kept_are; removed = next.removed_are; label = next.label_is; past = next.past_is } in
     record {
       judged = j;
       right = next.under.whole;
@@ -181,7 +181,7 @@ ended_rounds rules plans names log entries st left ts now more pushed tickets se
     makes_same h.0 (book_same rules plans names refl h.3 refl) (dropped_rounds (book_of rules plans names log st ts) seat t k l place now tickets entries past next (h.1 ∙ ap (λ (xs : List Ticket). slice_set xs t ended) (none_more now pushed more e made)) h.2)
 ended_rounds rules plans names log entries st left ts now more pushed tickets seat t k l place thens.Whole i binding last kept past next made e h =
     let f = h.1 in
-    let at : (ticket_at now t).goal ≡ Numbered i.whole.past.label = past.live.holds.goal ∙ ap (λ (z : SearchState). Numbered z.label) (sym next.past_is) in
+    let at : (ticket_at now t).goal ≡ Numbered i.whole.past.label = past.live.holds.goal ∙ ap Numbered (sym next.label_is) in
     makes_same h.0 (book_same rules plans names refl f.store refl) (fired_rounds (book_of rules plans names log st ts) seat t k l place made.0 i.whole binding (record { first = length now; count = length pushed - length now; active_lives = f.lives }) now tickets entries kept past next made.1
     (fires_whole seat t (length now) (length pushed) f.lives made.0 i.whole binding now more pushed tickets log entries at refl refl made.2 e f.fires))
 
@@ -193,7 +193,7 @@ fewer_rounds rules plans names log entries st left ts now tickets seat t most h 
 pub finds : (s : Space) (place : List ℕ) (come : Then) (i : Instance) (binding : List (Option (Value ℕ))) → IsThen s place come i binding → come ≡ thens.Whole → ((rule : Simpagation ℕ) × (rule_at s.rules i.whole.number ≡ Some rule)) × (i.whole.past.label ≡ s.active)
 finds s place come i binding next is =
     let w : IsWholeNext s place i.whole binding = subst (λ c. IsThen s place c i binding) is next in
-    ((w.trial.rule, ap (rule_at s.rules) w.number_is ∙ w.is.rule_is), ap (λ (z : SearchState). z.label) w.past_is)
+    ((w.trial.rule, ap (rule_at s.rules) w.number_is ∙ w.is.rule_is), w.label_is)
 
 -- ---- the last of some rounds that passes over no trial is the same wherever the search stands
 
@@ -513,7 +513,7 @@ fires_rounds : (rules : List (Simpagation ℕ)) (plans : PlanList) (names : List
 fires_rounds rules plans names log entries st after ts lent_ts more pushed new seat t k a place i binding h out p next made e own f =
     let b : BookState = book_of rules plans names log st ts in
     let claim : BookState = activated (book_of rules plans names log st ts) seat t a in
-    let label : i.whole.past.label ≡ st.next = ap (λ (z : SearchState). z.label) next.past_is in
+    let label : i.whole.past.label ≡ st.next = next.label_is in
     let now : List Ticket = slice_set ts t (going_on place (activated_by seat st.next)) in
     subst (λ (z : LabelledStore). MakesRounds seat t (record { passed = k; last = lasts.Fired }) claim (book_of rules plans names entries z new))
     (ap (λ (z : Store). record { entries = z; next = st.next + 1; limit = st.limit }) (without_entered i.whole.removed.items st.entries st.next a (ap (among i.whole.removed.items) (sym label) ∙ own)) ∙ sym f.store)
