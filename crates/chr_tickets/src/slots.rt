@@ -20,6 +20,7 @@ pub(crate) fn place_of(first: u64, ticket: u64) -> usize
 }
 
 /// Pops the empty slots at the front, and gives the number of the first one that is left.
+#[inline(always)]
 pub(crate) fn pop_ended<A: Allocator + Copy>(slots: &mut Slots<A>, mut first: u64) -> u64
     requires { first + length slots.old.items < 2 ^ 64 }
     ensures listed { listed result slots.new.items ≡ listed first slots.old.items }

@@ -283,6 +283,7 @@ impl<A: Allocator + Copy> Tickets<A> {
     }
 
     /// Ends the goal of a ticket.
+    #[inline(always)]
     pub fn end(&mut self, ticket: u64)
         ensures { self.new ≡ slice_set self.old ticket ended }
     {
