@@ -20,7 +20,7 @@ use Rattle.chr_model.specs.Stores.{atom_at, among}
 use Rattle.chr_plan.specs.Orders.{heads_of, first_step}
 use Rattle.chr_plan.specs.declared.order.Step.{Step}
 use Rattle.chr_store.specs.Labels.{GivenBefore}
-use Rattle.chr_search.specs.Tree.{Grows, LeastFrom, NoneFrom}
+use Rattle.chr_search.specs.Tree.{Grows}
 use Rattle.chr_search.specs.Trials.{Join, StandsAt, HasHeadPred, MayFollow, IsInTurn}
 use Rattle.chr_search.specs.declared.join.Asked.{Asked}
 use Rattle.chr_search.specs.Partners.{HasPlan, IsReady, key_value, keyed_at, KeyIs, key_in, IsAskedFor, IsPartnerFrom}
