@@ -14,7 +14,7 @@ use Rattle.chr_rule.specs.Parts.{argument}
 use Rattle.chr_rule.specs.Rules.{Term, Var, Given, Open, RuleAtom, Simpagation, head_at, Expression, BodyItem, Is, Add}
 use Rattle.chr_rule.specs.Scope.{argument_known, IsRule, known_after_heads, known_after_body}
 use Rattle.chr_guard.specs.Values.{Valuation, term_under, value_of, value_under}
-use Rattle.chr_guard.specs.Bindings.{bound_at, Extends, Narrows, NoneUnder, NarrowsIf, IsReady}
+use Rattle.chr_guard.specs.Bindings.{bound_at, Extends, Narrows, NoneUnder, NarrowsIf, PartsBound}
 use Rattle.chr_guard.specs.Instances.{atom_under, made_under, AreMadeUnder, IsRight, added}
 use Rattle.chr_guard.specs.Matching.{IsAtHead, AreAtHeads, HeadsAre, IsFit, IsOfHeads, Completes, IsBody, BindsIf, IsCompleted, with_term, TakesValue, TakeValues}
 use Rattle.chr_guard.proofs.Scoped.{scoped, IsPlaced, heads_below, body_below, args_later, is_known, add_known}
@@ -349,11 +349,11 @@ module _ (rule : Simpagation ℕ) (i : ℕ) (old mid : List (Option (Value ℕ))
     | inr from ↦ done.bound y from l
   ]
 
-  pub item_ready : (m : BodyItem ℕ) → m ≡ get_or rule.body i m → ((x : ℕ) → IsOfHeads rule x → IsSome (bound_at old x)) → IsReady mid m
+  pub item_ready : (m : BodyItem ℕ) → m ≡ get_or rule.body i m → ((x : ℕ) → IsOfHeads rule x → IsSome (bound_at old x)) → PartsBound mid m
   item_ready (Is x e) there heads = is_known done.known rule.variables x e (drop (i + 1) rule.body) (turn rule i x e old mid within there done) (λ _ k _. known_bound mid done.known e (known_here heads) k)
   item_ready (Add s) there heads = add_known done.known rule.variables s (drop (i + 1) rule.body) (add_turn rule i s old mid within there done) (λ k _. known_terms mid done.known s.args (known_here heads) k)
 
-  pub item_unready : (m : BodyItem ℕ) → m ≡ get_or rule.body i m → (IsReady mid m → ⊥) → (made : List (Atom ℕ)) → IsBody rule old made → ⊥
+  pub item_unready : (m : BodyItem ℕ) → m ≡ get_or rule.body i m → (PartsBound mid m → ⊥) → (made : List (Atom ℕ)) → IsBody rule old made → ⊥
   item_unready (Is x e) there not made b =
       is_valueless rule i x e old mid within there done (none_is_none (value_of (bound_at mid) e) (λ some. (let n = some_is_some (value_of (bound_at mid) e) some in not (value_bound mid e n.0 n.1)))) made b
   item_unready (Add s) there not made b =

@@ -70,9 +70,9 @@ abbrev pub IsBound : List (Option (Value ℕ)) → Term ℕ → Type 0
 IsBound binding t = (x : ℕ) → t ≡ Var x → IsSome (bound_at binding x)
 
 -- all variables of an expression are bound, and each argument of a constraint that is a variable
-abbrev pub IsReady : List (Option (Value ℕ)) → BodyItem ℕ → Type 0
-IsReady binding (Is x e) = AllBound binding e
-IsReady binding (Add s) = AllByRecursion (IsBound binding) s.args
+abbrev pub PartsBound : List (Option (Value ℕ)) → BodyItem ℕ → Type 0
+PartsBound binding (Is x e) = AllBound binding e
+PartsBound binding (Add s) = AllByRecursion (IsBound binding) s.args
 
 -- each variable of a comparison is bound, if it is one of numbers
 abbrev pub SidesBound : List (Option (Value ℕ)) → Comparison ℕ → Type 0

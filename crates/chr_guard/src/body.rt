@@ -5,7 +5,7 @@ ghost use Rattle.chr_value.specs.Atoms.{Atom, args_of, ground, grounds};
 ghost use Rattle.chr_rule.specs.Parts.{argument, member, shape};
 ghost use Rattle.chr_rule.specs.Rules.{terms_of, Expression, Is};
 ghost use Rattle.chr_guard.specs.Values.{term_under, terms_under, value_under};
-ghost use Rattle.chr_guard.specs.Bindings.{Keeps, IsReady, bound_at};
+ghost use Rattle.chr_guard.specs.Bindings.{Keeps, PartsBound, bound_at};
 ghost use Rattle.chr_guard.specs.Instances.{made_under, AreMadeUnder, added};
 ghost use Rattle.chr_guard.specs.Matching.{BindsIf, CompletedIf, IsBody, IsOfHeads};
 
@@ -127,8 +127,8 @@ pub fn make_atom<A: Allocator + Copy>(
 }
 
 /// Whether all variables of an expression are bound, or each argument of a constraint that is a variable.
-fn is_ready<A: Allocator + Copy>(item: &BodyItem<A>, binding: &Binding<'_, A>) -> bool
-    ensures { IsTrue result ↔ IsReady binding.now (member item.now) }
+fn are_parts_bound<A: Allocator + Copy>(item: &BodyItem<A>, binding: &Binding<'_, A>) -> bool
+    ensures { IsTrue result ↔ PartsBound binding.now (member item.now) }
 {
     match item {
         BodyItem::Is(_, expr) => are_bound(expr, binding),
@@ -141,7 +141,7 @@ fn is_ready<A: Allocator + Copy>(item: &BodyItem<A>, binding: &Binding<'_, A>) -
 #[inline(always)]
 fn bind_item<A: Allocator + Copy>(item: &BodyItem<A>, binding: &mut Binding<'_, A>) -> bool
     requires place { (x : ℕ) (e : Expression) → member item.now ≡ Is x e → x < length binding.old }
-    requires ready { IsReady binding.old (member item.now) }
+    requires ready { PartsBound binding.old (member item.now) }
     ensures binds { BindsIf (member item.now) result binding.old binding.new }
     ensures keeps { Keeps binding.old binding.new }
 {
@@ -169,7 +169,7 @@ fn bind_body<A: Allocator + Copy>(
     ensures keeps { Keeps binding.old binding.new }
 {
     for item in rule.body() {
-        if !heads_are_bound && !is_ready(item, binding) {
+        if !heads_are_bound && !are_parts_bound(item, binding) {
             return false;
         }
         if !bind_item(item, binding) {
