@@ -69,16 +69,16 @@ cost() {
   echo "$best $(memory "$1")"
 }
 
-# Prints how many bytes the entries of a log take: 12 for a drop, 16 for an activation, 16 and 4 a label for a firing, 20 and
-# 8 an argument for a post, and 8 more for each argument that isn't from 0 to 4,294,967,294.
+# Prints how many bytes the entries of a log take: 8 for a drop, 12 for an activation, 12 and 4 a label for a firing, 16 and
+# 8 an argument for a post, and 8 more for each argument that isn't from 0 to 4,294,967,294. No ticket is above 16,777,214.
 entry_bytes() {
   awk '
-    $1 == "D" { bytes += 12 }
-    $1 == "A" { bytes += 16 }
-    $1 == "F" { bytes += 16 + 4 * gsub(/[0-9]+/, "&", $4) }
+    $1 == "D" { bytes += 8 }
+    $1 == "A" { bytes += 12 }
+    $1 == "F" { bytes += 12 + 4 * gsub(/[0-9]+/, "&", $4) }
     $1 == "P" {
       count = split($0, parts, /[(),]/)
-      bytes += 20
+      bytes += 16
       for (i = 2; i < count; i++) bytes += 8 + (parts[i] + 0 < 0 || parts[i] + 0 > 4294967294 ? 8 : 0)
     }
     END { print bytes + 0 }' "$work/log"
