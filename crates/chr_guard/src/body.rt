@@ -180,7 +180,8 @@ fn bind_body<A: Allocator + Copy>(
 }
 
 /// The same where the variables of the rule's heads are bound.
-#[inline(always)]
+// Apart, so that the judgement of a trial, which is made far more often, stays short enough to be inlined.
+#[inline(never)]
 pub(crate) fn complete_body<A: Allocator + Copy>(
     rule: &Rule<A>,
     binding: &mut Binding<'_, A>,
