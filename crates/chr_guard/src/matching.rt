@@ -173,7 +173,8 @@ fn fit_args<'v, A: Allocator + Copy>(
 }
 
 /// Extends a binding so that a head equals an atom of its predicate, as [`fit_head`] does, without a look at the predicate.
-#[inline(always)]
+// Not always: beside `bind_partner` it would make the judgement of a trial too long to be inlined.
+#[inline]
 pub fn fit_partner<'v, A: Allocator + Copy>(
     binding: &mut Binding<'v, A>,
     head: &RuleAtom<A>,
