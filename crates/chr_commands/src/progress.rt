@@ -38,6 +38,7 @@ impl<'r, R: Clock> Progress<'r, R> {
 }
 
 impl<'r, R: Clock + Eprint> Watch for Progress<'r, R> {
+    #[inline(always)]
     fn done(&mut self, count: u64) {
         let Some(pace) = &mut self.pace else {
             return;

@@ -34,8 +34,6 @@ use std::sync::Wait;
 use std::thread::Threads;
 
 /// Returns the words of the command line, the program's own name first.
-// Apart: the code of searches then lies where it is faster, by chance.
-#[inline(never)]
 fn words(rt: &HostRuntime) -> io::Result<Vec<String>> {
     let given = env::args(rt)?;
     let mut words = Vec::with_capacity(rt.alloc(), given.len())?;
