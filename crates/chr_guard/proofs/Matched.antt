@@ -16,13 +16,13 @@ use Rattle.chr_rule.specs.Scope.{argument_known, IsRule, known_after_heads, know
 use Rattle.chr_guard.specs.Values.{Valuation, term_under, value_of, value_under}
 use Rattle.chr_guard.specs.Bindings.{bound_at, Extends, Narrows, NoneUnder, NarrowsIf, PartsBound}
 use Rattle.chr_guard.specs.Instances.{atom_under, made_under, AreMadeUnder, IsRight, added}
-use Rattle.chr_guard.specs.Matching.{IsAtHead, AreAtHeads, HeadsAre, IsFit, IsOfHeads, Completes, IsBody, BindsIf, IsCompleted, with_term, TakesValue, TakeValues}
+use Rattle.chr_guard.specs.Matching.{IsAtHead, AreAtHeads, HeadsAre, IsFit, IsOfHeads, Completes, IsBody, BindsIf, IsCompleted, with_term, TakesValue, TakeValues, TermsAre}
 use Rattle.chr_guard.proofs.Scoped.{scoped, IsPlaced, heads_below, body_below, args_later, is_known, add_known}
 use Rattle.chr_guard.proofs.Under.{atom_is, heads_bound, value_grows, made_grows, atoms_append, none_made, added_append, none_is_none, some_is_some, some_atom}
 use Rattle.chr_guard.proofs.Valued.{AreBound, value_bound, terms_bound, known_bound, known_terms}
 use Rattle.chr_guard.proofs.Bindings.{narrows_both, narrows_as, none_after, free_extends, extends_itself, narrows_nothing, others_stay, bound_settled, stays_bound, told_new, told_bound}
-use Rattle.chr_guard.proofs.Steps.{all_more, all_at, halves, SoFar, map_read, read_more}
-use Rattle.std.proofs.lemmas.Bool.{cases_lt, cases_eq}
+use Rattle.chr_guard.proofs.Steps.{all_more, all_at, halves, SoFar, known_read, map_read, read_more}
+use Rattle.std.proofs.lemmas.Bool.{and_parts, cases_lt, cases_eq}
 use Rattle.std.proofs.lemmas.Bool.Decides.{nat_tests}
 use Rattle.chr_guard.proofs.Fixed.{Agree, value_agrees, made_agrees}
 
@@ -31,13 +31,13 @@ told_as P Q true old new e n = narrows_as P Q old new e n
 told_as P Q false old new e n = λ v h q. n v h ((e v).1 q)
 
 -- the arguments of a head and of an atom of that name
-pub told_head : (told : Bool) (s : RuleAtom ℕ) (a : Atom ℕ) (old new : List (Option (Value ℕ))) → s.name ≡ a.name → NarrowsIf (λ v. map (term_under v) s.args ≡ map (λ t. Some t) a.args) told old new → NarrowsIf (λ v. atom_under v s ≡ Some a) told old new
-told_head told s a old new name n =
-    told_as (λ v. map (term_under v) s.args ≡ map (λ t. Some t) a.args) (λ v. atom_under v s ≡ Some a) told old new
-    (λ v. (λ h. (atom_is v s a).1 (name, h), λ h. ((atom_is v s a).0 h).1)) n
+pub told_head : (told : Bool) (s : RuleAtom ℕ) (a : Atom ℕ) (ts : List (Term ℕ)) (old new : List (Option (Value ℕ))) → s.name ≡ a.name → ts ≡ s.args → NarrowsIf (TermsAre ts a.args) told old new → NarrowsIf (λ v. atom_under v s ≡ Some a) told old new
+told_head told s a ts old new name are n =
+    told_as (TermsAre ts a.args) (λ v. atom_under v s ≡ Some a) told old new
+    (λ v. (λ h. (atom_is v s a).1 (name, subst (λ us. TermsAre us a.args v) are h), λ h. subst (λ us. TermsAre us a.args v) (sym are) ((atom_is v s a).0 h).1)) n
 
 -- a term that takes a value is that value from then on
-pub term_taken : (old : List (Option (Value ℕ))) (t : Term ℕ) (a : Value ℕ) → argument_known (length old) t ≡ true → TakesValue old t a → Narrows (λ v. term_under v t ≡ Some a) old (with_term old t a)
+term_taken : (old : List (Option (Value ℕ))) (t : Term ℕ) (a : Value ℕ) → argument_known (length old) t ≡ true → TakesValue old t a → Narrows (λ v. term_under v t ≡ Some a) old (with_term old t a)
 term_taken old (Var x) a known (inl free) = let within : x < length old = grind (arith, nat_tests) in told_new old x a within free
 term_taken old (Var x) a known (inr bound) =
     let same : slice_set old x (Some a) ≡ old = ap (slice_set old x) (sym bound) ∙ set-get_or old x None in
@@ -56,7 +56,7 @@ pub take_each : {A : Type 0} (binding : List (Option (Value ℕ))) (ts : List (C
 take_each binding ts values take = sym (length-map ts argument) ∙ take_count binding (map argument ts) values take
 
 -- a term that is no variable binds none
-not_variable : {A : Type 0} (binding : List (Option (Value ℕ))) (t : CodeTerm A) (a : Value ℕ) → ((x : ℕ) → t ≡ code.Var x → ⊥) → with_term binding (argument t) a ≡ binding
+pub not_variable : {A : Type 0} (binding : List (Option (Value ℕ))) (t : CodeTerm A) (a : Value ℕ) → ((x : ℕ) → t ≡ code.Var x → ⊥) → with_term binding (argument t) a ≡ binding
 not_variable binding (code.Var x) a other = absurd (other x refl)
 not_variable binding (code.Given b) a other = ap (λ u. with_term binding u a) (argument-Given b)
 not_variable binding (code.Open' p s n row) a other = search (rules, the_lemmas)
@@ -68,26 +68,52 @@ term_within {A} old t x e here = let known : nat_lt x (length old) ≡ true = ap
 pub term_put : {A : Type 0} (old : List (Option (Value ℕ))) (t : CodeTerm A) (a : Value ℕ) (x : ℕ) (new : List (Option (Value ℕ))) → t ≡ code.Var x → new ≡ slice_set old x (Some a) → new ≡ with_term old (argument t) a
 term_put {A} old t a x new e put = put ∙ sym (ap (λ u. with_term old u a) (ap argument e ∙ argument-Var A x))
 
--- the binding once the first i terms equal their values, where those that are left take them if all are fresh
-pub record Taking (fresh : Bool) (ts : List (Term ℕ)) (values : List (Value ℕ)) (i : ℕ) (old new : List (Option (Value ℕ))) : Type 0 where
+-- a value that is read at a place
+pub value_there : (values : List (Value ℕ)) (i : ℕ) (a : Value ℕ) → Some a ≡ slice_get values i → a ≡ get_or values i a
+value_there values i a read = sym (get_or_from_slice_get values i a a (sym read))
+
+-- terms that take their values one after another are these values under some valuation
+all_taken : (old : List (Option (Value ℕ))) (ts : List (Term ℕ)) (values : List (Value ℕ)) → list_all (argument_known (length old)) ts ≡ true → TakeValues old ts values → (new : List (Option (Value ℕ))) × Narrows (TermsAre ts values) old new
+all_taken old [] [] known take = (old, narrows_nothing (TermsAre [] []) old (λ v. refl))
+all_taken old (t ∷ ts) (a ∷ values) known take =
+    let two = and_parts (argument_known (length old) t) (list_all (argument_known (length old)) ts) known in
+    let here = term_taken old t a two.0 take.0 in
+    let rest = all_taken (with_term old t a) ts values (subst (λ n. list_all (argument_known n) ts ≡ true) (sym here.places) two.1) take.1 in (
+      rest.0,
+      narrows_as (λ v. (term_under v t ≡ Some a) × TermsAre ts values v) (TermsAre (t ∷ ts) (a ∷ values)) old rest.0 (λ v. (λ h. ap₂ (λ b bs. b ∷ bs) h.0 h.1, λ h. (cc h, cc h)))
+          (narrows_both (λ v. term_under v t ≡ Some a) (TermsAre ts values) old (with_term old t a) rest.0 here rest.1),
+    )
+all_taken old (t ∷ ts) [] known take = absurd take
+all_taken old [] (a ∷ values) known take = absurd take
+
+-- so the answer is yes
+pub taken_surely : (told : Bool) (old new : List (Option (Value ℕ))) (ts : List (Term ℕ)) (values : List (Value ℕ)) → list_all (argument_known (length old)) ts ≡ true → TakeValues old ts values → NarrowsIf (TermsAre ts values) told old new → Narrows (TermsAre ts values) old new
+taken_surely true old new ts values known take n = n
+taken_surely false old new ts values known take none =
+    let all = all_taken old ts values known take in
+    let both = (all.1.exactly (bound_at all.0)).0 (extends_itself all.0) in
+    absurd (none (bound_at all.0) both.0 both.1)
+
+-- the binding once the first i terms equal their values, which those that are left take
+pub record Taking (ts : List (Term ℕ)) (values : List (Value ℕ)) (i : ℕ) (old new : List (Option (Value ℕ))) : Type 0 where
   pub narrows : Narrows (SoFar term_under ts (map (λ t. Some t) values) i) old new
-  pub rest : fresh ≡ true → TakeValues new (drop i ts) (drop i values)
+  pub rest : TakeValues new (drop i ts) (drop i values)
 
 -- one term of the code more
-module _ {A : Type 0} (fresh : Bool) (ts : List (CodeTerm A)) (values : List (Value ℕ)) (i : ℕ) (t : CodeTerm A) (a : Value ℕ) (old mid : List (Option (Value ℕ))) (left : i < length ts) (right : i < length values) (is : t ≡ get_or ts i t) (at : a ≡ get_or values i a) (so_far : Taking fresh (map argument ts) values i old mid) where
-  takes_on : fresh ≡ true → TakeValues mid (argument t ∷ drop (i + 1) (map argument ts)) (a ∷ drop (i + 1) values)
-  takes_on all =
+module _ {A : Type 0} (ts : List (CodeTerm A)) (values : List (Value ℕ)) (i : ℕ) (t : CodeTerm A) (a : Value ℕ) (old mid : List (Option (Value ℕ))) (left : i < length ts) (right : i < length values) (is : t ≡ get_or ts i t) (at : a ≡ get_or values i a) (known : list_all (argument_known (length old)) (map argument ts) ≡ true) (so_far : Taking (map argument ts) values i old mid) where
+  pub taking_known : argument_known (length mid) (argument t) ≡ true
+  taking_known = ap (λ m. argument_known m (argument t)) so_far.narrows.places ∙ known_read (argument_known (length old)) argument ts i t left is known
+
+  takes_on : TakeValues mid (argument t ∷ drop (i + 1) (map argument ts)) (a ∷ drop (i + 1) values)
+  takes_on =
       subst₂ (TakeValues mid) (drop_more (map argument ts) i (argument t) (rw length-map left) ∙ ap (λ u. u ∷ drop (i + 1) (map argument ts)) (sym (map_read argument ts i t left is)))
-      (drop_more values i a right ∙ ap (λ b. b ∷ drop (i + 1) values) (sym at)) (so_far.rest all)
+      (drop_more values i a right ∙ ap (λ b. b ∷ drop (i + 1) values) (sym at)) so_far.rest
 
-  pub taking_here : fresh ≡ true → TakesValue mid (argument t) a
-  taking_here all = (takes_on all).0
-
-  pub taking_more : (new : List (Option (Value ℕ))) → Narrows (λ v. term_under v (argument t) ≡ Some a) mid new → (fresh ≡ true → new ≡ with_term mid (argument t) a) → Taking fresh (map argument ts) values (i + 1) old new
-  taking_more new narrows put = record {
-    narrows = read_more term_under argument (λ b. Some b) ts values i t a left right is at old mid new so_far.narrows narrows;
-    rest = λ all. subst (λ b. TakeValues b (drop (i + 1) (map argument ts)) (drop (i + 1) values)) (sym (put all)) (takes_on all).1;
-  }
+  pub taking_more : (new : List (Option (Value ℕ))) → new ≡ with_term mid (argument t) a → Taking (map argument ts) values (i + 1) old new
+  taking_more new put = subst (Taking (map argument ts) values (i + 1) old) (sym put) (record {
+    narrows = read_more term_under argument (λ b. Some b) ts values i t a left right is at old mid (with_term mid (argument t) a) so_far.narrows (term_taken mid (argument t) a taking_known takes_on.0);
+    rest = takes_on.1;
+  })
 
 placed_in : (hs : List (RuleAtom ℕ)) (n j : ℕ) (s : RuleAtom ℕ) → AllByRecursion (IsPlaced n) hs → slice_get hs j ≡ Some s → list_all (argument_known n) s.args ≡ true
 placed_in hs n j s a e = subst (IsPlaced n) (get_or_from_slice_get hs j s s e) (All-from_recursion (IsPlaced n) hs a j s (slice_get_within hs j s e))

@@ -1,14 +1,18 @@
 -- When a rule's heads are atoms, and which body it then adds.
-use Rattle.std.specs.Prelude.{◌≡◌, ◌↔◌, ◌<◌, ℕ, ◌++◌, Bool, true, false, List, [], ◌∷◌, length}
+use Rattle.std.specs.Prelude.{◌≡◌, ◌↔◌, ◌<◌, ℕ, ◌++◌, Bool, true, false, List, [], ◌∷◌, length, map}
 use Rattle.std.specs.Prelude.{Option, Some, None, ◌⊎◌, slice_set, IsTrue, IsSome, MatchOption}
 use Rattle.std.specs.List.{AllByRecursion}
 use Rattle.std.specs.Option.{option_map}
 use Rattle.chr_value.specs.Atoms.{Value, Atom, Int}
 use Rattle.chr_rule.specs.Rules.{Term, Var, Given, Open, Simpagation, head_at, BodyItem, Is, Add}
 use Rattle.chr_rule.specs.Scope.{known_after_heads}
-use Rattle.chr_guard.specs.Values.{Valuation, value_of}
+use Rattle.chr_guard.specs.Values.{Valuation, term_under, value_of}
 use Rattle.chr_guard.specs.Bindings.{bound_at, Extends, Narrows, NarrowsIf}
 use Rattle.chr_guard.specs.Instances.{atom_under, made_under, AreUnder, AreMadeUnder, IsRight, added, IsInstance, NoInstance}
+
+-- under the valuation these terms are these values
+abbrev pub TermsAre : List (Term ℕ) → List (Value ℕ) → Valuation → Type 0
+TermsAre ts values v = map (term_under v) ts ≡ map (λ t. Some t) values
 
 -- a binding once a term stands for a value
 abbrev pub with_term : List (Option (Value ℕ)) → Term ℕ → Value ℕ → List (Option (Value ℕ))

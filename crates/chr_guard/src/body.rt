@@ -180,8 +180,7 @@ fn bind_body<A: Allocator + Copy>(
 }
 
 /// The same where the variables of the rule's heads are bound.
-// Apart, so that the judgement of a trial, which is made far more often, stays short enough to be inlined.
-#[inline(never)]
+#[inline(always)]
 pub(crate) fn complete_body<A: Allocator + Copy>(
     rule: &Rule<A>,
     binding: &mut Binding<'_, A>,

@@ -1,5 +1,5 @@
 //! Which binding makes heads of a rule equal to atoms.
-ghost use Rattle.std.specs.Prelude.{◌≡◌, ◌<◌, ◌≤◌, true, Some, length, map, slice_get, MatchOption};
+ghost use Rattle.std.specs.Prelude.{◌≡◌, ◌≤◌, true, Some, length, map, MatchOption};
 ghost use Rattle.std.specs.List.{list_all, AllByRecursion};
 ghost use Rattle.chr_value.specs.Atoms.{ground, said};
 ghost use Rattle.chr_value.specs.Limits.{IsWithin};
@@ -8,7 +8,7 @@ ghost use Rattle.chr_rule.specs.Scope.{argument_known};
 ghost use Rattle.chr_guard.specs.Values.{term_under};
 ghost use Rattle.chr_guard.specs.Bindings.{Keeps, Narrows, NarrowsIf};
 ghost use Rattle.chr_guard.specs.Instances.{atom_under};
-ghost use Rattle.chr_guard.specs.Matching.{AreAtHeads, HeadsAre, IsFit, TakesValue, TakeValues, with_term};
+ghost use Rattle.chr_guard.specs.Matching.{AreAtHeads, HeadsAre, IsFit, TakeValues, TermsAre};
 
 use crate::binding::Binding;
 use chr_rule::{Rule, RuleAtom, Term};
@@ -67,114 +67,68 @@ fn fit_terms<'v, A: Allocator + Copy>(
     true
 }
 
-/// An argument of an atom, by its index, which is one that lies in the atom itself where `is_own` says so.
+/// The same for the arguments of a head, of which there are as many as an atom has, all in the atom itself.
 #[inline(always)]
-fn arg_of<'v, A: Allocator + Copy>(atom: &'v Atom<A>, index: usize, is_own: bool) -> ValueRef<'v, A>
-    requires within { index < length atom.now.args }
-    requires own { is_own ≡ true → index < 3 }
-    ensures value { Some (said result) ≡ slice_get atom.now.args index }
-    ensures within { IsWithin (said result) }
-{
-    if is_own {
-        atom.own_arg_at(index)
-    } else {
-        atom.arg_at(index)
-    }
-}
-
-/// Extends a binding so that a term equals a value, as [`fit_term`] does. Where the term is fresh, which is a free variable or
-/// stands for the value already, nothing is compared.
-#[inline(always)]
-fn take_term<'v, A: Allocator + Copy>(
-    binding: &mut Binding<'v, A>,
-    term: &Term<A>,
-    value: ValueRef<'v, A>,
-    is_fresh: bool,
-) -> bool
-    requires known { argument_known (length binding.old) (argument term.now) ≡ true }
-    requires within { IsWithin (said value) }
-    requires fresh { is_fresh ≡ true → TakesValue binding.old (argument term.now) (said value) }
-    ensures narrows { NarrowsIf (λ v. term_under v (argument term.now) ≡ Some (said value.entry)) result binding.old binding.new }
-    ensures keeps { Keeps binding.old binding.new }
-    ensures taken { is_fresh ≡ true → (result ≡ true) × (binding.new ≡ with_term binding.old (argument term.now) (said value.entry)) }
-{
-    if !is_fresh {
-        return fit_term(binding, term, value);
-    }
-    if let Term::Var(x) = term {
-        binding.put(*x, value);
-    }
-    true
-}
-
-/// The same for the arguments of a head, of which there are as many as an atom has, all in the atom itself where `are_own`
-/// says so.
-#[inline(always)]
-fn fit_each<'v, A: Allocator + Copy>(
+fn fit_own<'v, A: Allocator + Copy>(
     binding: &mut Binding<'v, A>,
     terms: &[Term<A>],
     atom: &'v Atom<A>,
-    are_own: bool,
-    are_fresh: bool,
 ) -> bool
     requires known { list_all (argument_known (length binding.old)) (map argument terms.now) ≡ true }
     requires arity { length terms.now ≡ length atom.now.args }
-    requires own { are_own ≡ true → length terms.now ≤ 3 }
-    requires fresh { are_fresh ≡ true → TakeValues binding.old (map argument terms.now) atom.now.args }
-    ensures narrows { NarrowsIf (λ v. map (term_under v) (map argument terms.now) ≡ map (λ t. Some t) atom.now.args) result binding.old binding.new }
+    requires own { length terms.now ≤ 3 }
+    ensures narrows { NarrowsIf (TermsAre (map argument terms.now) atom.now.args) result binding.old binding.new }
     ensures keeps { Keeps binding.old binding.new }
-    ensures taken { are_fresh ≡ true → result ≡ true }
 {
     for i in 0..terms.len() {
-        if !take_term(binding, &terms[i], arg_of(atom, i, are_own), are_fresh) {
+        if !fit_term(binding, &terms[i], atom.own_arg_at(i)) {
             return false;
         }
     }
     true
 }
 
-/// The same for many arguments, which takes a call.
+/// The same wherever the atom's arguments lie. It takes a call.
 fn fit_many<'v, A: Allocator + Copy>(
     binding: &mut Binding<'v, A>,
     terms: &[Term<A>],
     atom: &'v Atom<A>,
-    are_fresh: bool,
 ) -> bool
     requires known { list_all (argument_known (length binding.old)) (map argument terms.now) ≡ true }
     requires arity { length terms.now ≡ length atom.now.args }
-    requires fresh { are_fresh ≡ true → TakeValues binding.old (map argument terms.now) atom.now.args }
-    ensures narrows { NarrowsIf (λ v. map (term_under v) (map argument terms.now) ≡ map (λ t. Some t) atom.now.args) result binding.old binding.new }
+    ensures narrows { NarrowsIf (TermsAre (map argument terms.now) atom.now.args) result binding.old binding.new }
     ensures keeps { Keeps binding.old binding.new }
-    ensures taken { are_fresh ≡ true → result ≡ true }
 {
-    fit_each(binding, terms, atom, false, are_fresh)
+    for i in 0..terms.len() {
+        if !fit_term(binding, &terms[i], atom.arg_at(i)) {
+            return false;
+        }
+    }
+    true
 }
 
-/// The same for any arguments. Most atoms have few, which lie in them.
+/// Extends a binding so that the arguments of a head equal those of an atom, all in the atom itself, where each of the head's is
+/// a free variable, or stands for the atom's already. It compares nothing.
 #[inline(always)]
-fn fit_args<'v, A: Allocator + Copy>(
+fn bind_own<'v, A: Allocator + Copy>(
     binding: &mut Binding<'v, A>,
     terms: &[Term<A>],
     atom: &'v Atom<A>,
-    are_fresh: bool,
-) -> bool
+)
     requires known { list_all (argument_known (length binding.old)) (map argument terms.now) ≡ true }
-    requires arity { length terms.now ≡ length atom.now.args }
-    requires fresh { are_fresh ≡ true → TakeValues binding.old (map argument terms.now) atom.now.args }
-    ensures narrows { NarrowsIf (λ v. map (term_under v) (map argument terms.now) ≡ map (λ t. Some t) atom.now.args) result binding.old binding.new }
-    ensures keeps { Keeps binding.old binding.new }
-    ensures taken { are_fresh ≡ true → result ≡ true }
+    requires own { length terms.now ≤ 3 }
+    requires values { TakeValues binding.old (map argument terms.now) atom.now.args }
+    ensures { Narrows (TermsAre (map argument terms.now) atom.now.args) binding.old binding.new }
 {
-    if terms.len() <= OWN_ARGS {
-        fit_each(binding, terms, atom, true, are_fresh)
-    } else {
-        fit_many(binding, terms, atom, are_fresh)
+    for i in 0..terms.len() {
+        if let Term::Var(x) = &terms[i] {
+            binding.put(*x, atom.own_arg_at(i));
+        }
     }
 }
 
 /// Extends a binding so that a head equals an atom of its predicate, as [`fit_head`] does, without a look at the predicate.
-// Not always: beside `bind_partner` it would make the judgement of a trial too long to be inlined.
-#[inline]
+#[inline(always)]
 pub fn fit_partner<'v, A: Allocator + Copy>(
     binding: &mut Binding<'v, A>,
     head: &RuleAtom<A>,
@@ -186,11 +140,15 @@ pub fn fit_partner<'v, A: Allocator + Copy>(
     ensures narrows { NarrowsIf (λ v. atom_under v (shape head.now) ≡ Some atom.now) result binding.old binding.new }
     ensures keeps { Keeps binding.old binding.new }
 {
-    fit_args(binding, &head.terms, atom, false)
+    if head.terms.len() <= OWN_ARGS {
+        fit_own(binding, &head.terms, atom)
+    } else {
+        fit_many(binding, &head.terms, atom)
+    }
 }
 
 /// Extends a binding so that a head equals an atom of its predicate, where each of the head's arguments is a free variable, or
-/// stands for the atom's argument already. It compares nothing.
+/// stands for the atom's argument already. It compares nothing where there are at most [`OWN_ARGS`] arguments.
 #[inline(always)]
 pub fn bind_partner<'v, A: Allocator + Copy>(
     binding: &mut Binding<'v, A>,
@@ -203,7 +161,11 @@ pub fn bind_partner<'v, A: Allocator + Copy>(
     ensures narrows { Narrows (λ v. atom_under v (shape head.now) ≡ Some atom.now) binding.old binding.new }
     ensures keeps { Keeps binding.old binding.new }
 {
-    fit_args(binding, &head.terms, atom, true);
+    if head.terms.len() <= OWN_ARGS {
+        bind_own(binding, &head.terms, atom);
+    } else {
+        fit_many(binding, &head.terms, atom);
+    }
 }
 
 /// Extends a binding so that a head equals an atom. False only where no valuation that extends it makes them equal.

@@ -1,5 +1,5 @@
 //! The values of terms under a binding, compared and counted without being made.
-ghost use Rattle.std.specs.Prelude.{◌≡◌, ◌≢◌, ◌↔◌, IsTrue, IsSome, IfSome, Some, map};
+ghost use Rattle.std.specs.Prelude.{◌≡◌, ◌≢◌, ◌↔◌, true, false, IsTrue, IsSome, IfSome, Some, map};
 ghost use Rattle.std.specs.List.{AllByRecursion};
 ghost use Rattle.std.specs.Option.{option_map};
 ghost use Rattle.chr_value.specs.Atoms.{ground, said};
@@ -245,25 +245,24 @@ impl<'v, A: Allocator + Copy> Binding<'v, A> {
         true
     }
 
-    /// Whether two terms have values within the limits, and the same one.
+    /// Whether two terms have values within the limits, and the same one where `are_same` says so, or else different ones.
     #[inline(always)]
-    pub(crate) fn have_same(&self, s: &Term<A>, t: &Term<A>) -> bool
-        ensures { IsTrue result ↔ WhereBoth (λ a b. a ≡ b) (value_under (bound_at self.now) (argument s.now)) (value_under (bound_at self.now) (argument t.now)) }
+    pub(crate) fn are_compared(&self, s: &Term<A>, t: &Term<A>, are_same: bool) -> bool
+        ensures same { are_same ≡ true → (IsTrue result ↔ WhereBoth (λ a b. a ≡ b) (value_under (bound_at self.now) (argument s.now)) (value_under (bound_at self.now) (argument t.now))) }
+        ensures differ { are_same ≡ false → (IsTrue result ↔ WhereBoth (λ a b. a ≢ b) (value_under (bound_at self.now) (argument s.now)) (value_under (bound_at self.now) (argument t.now))) }
     {
         match (self.plain(s), self.plain(t)) {
-            (Some(a), Some(b)) => same_plain(a, b),
-            _ => self.has_value(s) && self.same(s, t),
+            (Some(a), Some(b)) => same_plain(a, b) == are_same,
+            _ => self.are_compared_in_full(s, t, are_same),
         }
     }
 
-    /// Whether two terms have values within the limits, and different ones.
-    #[inline(always)]
-    pub(crate) fn differ(&self, s: &Term<A>, t: &Term<A>) -> bool
-        ensures { IsTrue result ↔ WhereBoth (λ a b. a ≢ b) (value_under (bound_at self.now) (argument s.now)) (value_under (bound_at self.now) (argument t.now)) }
+    /// The same for any terms, by a call.
+    #[inline(never)]
+    fn are_compared_in_full(&self, s: &Term<A>, t: &Term<A>, are_same: bool) -> bool
+        ensures same { are_same ≡ true → (IsTrue result ↔ WhereBoth (λ a b. a ≡ b) (value_under (bound_at self.now) (argument s.now)) (value_under (bound_at self.now) (argument t.now))) }
+        ensures differ { are_same ≡ false → (IsTrue result ↔ WhereBoth (λ a b. a ≢ b) (value_under (bound_at self.now) (argument s.now)) (value_under (bound_at self.now) (argument t.now))) }
     {
-        match (self.plain(s), self.plain(t)) {
-            (Some(a), Some(b)) => !same_plain(a, b),
-            _ => self.has_value(s) && self.has_value(t) && !self.same(s, t),
-        }
+        self.has_value(s) && self.has_value(t) && self.same(s, t) == are_same
     }
 }

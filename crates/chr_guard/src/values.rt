@@ -54,7 +54,8 @@ pub(crate) fn bound_value<A: Allocator + Copy>(
 }
 
 /// The value of an operation whose variables are bound. Each operand is a number by the end of its match, or the value is
-/// none: an `Option` in between would be tested once more. Only an operation within another takes a call.
+/// none: an `Option` in between would be tested once more. An operation within another takes a call, and so does one on the right
+/// of a comparison.
 #[cycle(nested)]
 #[inline(always)]
 fn operation<A: Allocator + Copy>(
@@ -131,7 +132,8 @@ fn compared<A: Allocator + Copy>(
             ValueRef::Int(n) => n,
             _ => return false,
         },
-        Expr::Operation(operator, a, b) => match operation(*operator, a, b, binding) {
+        // By a call: written out on both sides, a comparison would be too long to be inlined wherever a trial is judged.
+        Expr::Operation(operator, a, b) => match nested(*operator, a, b, binding) {
             Some(n) => n,
             None => return false,
         },
@@ -157,11 +159,12 @@ fn bound_holds<A: Allocator + Copy>(test: &Comparison<A>, binding: &Binding<'_, 
     requires { SidesBound binding.now (comparison test.now) }
     ensures { IsTrue result ↔ Holds (bound_at binding.now) (comparison test.now) }
 {
-    match test {
-        Comparison::Numbers(relation, a, b) => compared(*relation, a, b, binding),
-        Comparison::Same(s, t) => binding.have_same(s, t),
-        Comparison::Differ(s, t) => binding.differ(s, t),
-    }
+    let (s, t, are_same) = match test {
+        Comparison::Numbers(relation, a, b) => return compared(*relation, a, b, binding),
+        Comparison::Same(s, t) => (s, t, true),
+        Comparison::Differ(s, t) => (s, t, false),
+    };
+    binding.are_compared(s, t, are_same)
 }
 
 /// Whether each comparison of a guard holds. In those of numbers the variables are bound.
