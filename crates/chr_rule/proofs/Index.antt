@@ -1,16 +1,16 @@
 -- An index of the heads of rules.
-use Rattle.std.proofs.Common.{◌≡◌, ◌↔◌, ℕ, zero, suc, ◌+◌, ◌-◌, ◌<◌, ◌≤◌, ◌⊎◌, inl, inr, List, [], ◌∷◌, ◌++◌, length, get_or, drop, Some, None, slice_get, map, Bool, false, not, ◌&&◌, eqb, refl, sym, ap, subst, ◌∙◌, arith, length-append, ◌≢◌}
-use Rattle.std.proofs.lemmas.Option.{slice_get_within, get_or_from_slice_get, slice_get-map, slice_get_read}
+use Rattle.std.proofs.Common.{◌≡◌, ◌↔◌, ℕ, zero, suc, ◌+◌, ◌-◌, ◌<◌, ◌≤◌, ◌⊎◌, inl, inr, List, [], ◌∷◌, ◌++◌, length, get_or, drop, Option, Some, None, IsSome, slice_get, map, Bool, false, not, ◌&&◌, eqb, refl, sym, ap, subst, ◌∙◌, arith, length-append, ◌≢◌}
+use Rattle.std.proofs.lemmas.Option.{slice_get_within, get_or_from_slice_get, slice_get-map, slice_get_read, slice_get_cases}
 use Rattle.std.proofs.lemmas.Bool.Decides.{nat_tests}
 use Rattle.std.proofs.lemmas.Grind.{common_steps, elements}
-use Rattle.std.proofs.lemmas.List.{length-map, get_or-drop, map-append, get_or_append_left, get_or-append_right}
+use Rattle.std.proofs.lemmas.List.{length-map, get_or-drop, map-append, get_or-append_right}
 use Rattle.std.proofs.lemmas.List.Elements.{All-from_recursion, recursion_from_All, Contains-get_or}
 use Rattle.std.proofs.lemmas.List.Sorted.{IsPermutation-sym, IsPermutation-insert, Contains-permutation}
 use Rattle.std.specs.List.{AllByRecursion, Contains, insert}
 use Rattle.std.specs.List.Sorted.{IsNonDecreasingBy}
 use Rattle.chr_value.specs.declared.atom.Pred.{Pred}
 use Rattle.chr_rule.specs.declared.occurrences.Occurrence.{Occurrence}
-use Rattle.chr_rule.specs.Rules.{RuleAtom, Simpagation, head_at, rule_at}
+use Rattle.chr_rule.specs.Rules.{RuleAtom, Simpagation, heads_of, head_at, rule_at}
 use Rattle.chr_rule.specs.Scope.{IsRule}
 use Rattle.chr_rule.specs.Occurrences.{HasPred, IsOccurrence, AtOrAfter, AreListedFrom}
 use Rattle.chr_rule.specs.Index.{rank, FitsRank, IsRising, IsInOrder, IsIndexOf, IsRestFrom, HasInserted, HasHeadsBelow, HasHeadsOf}
@@ -194,11 +194,19 @@ numbered_read f xs (suc k) x ne h e = grind (arith, slice_get-map, slice_get_rea
 head_read : {X : Type 0} (f : X → RuleAtom ℕ) (rule : Simpagation ℕ) (ks rs : List X) (j : ℕ) (x : X) → map f ks ≡ rule.kept → map f rs ≡ rule.removed → j < length ks + length rs → x ≡ get_or (ks ++ rs) j x → head_at rule (suc j) ≡ Some (f x)
 head_read f rule ks rs j x k r l there = rw (← k, ← r, ← map-append, slice_get-map, slice_get_read (ks ++ rs) (length ks + length rs) j x (sym (length-append ks rs)) l there)
 
--- a kept head, and a removed one, read from their own lists
-pub head_kept : {X : Type 0} (f : X → RuleAtom ℕ) (rule : Simpagation ℕ) (ks rs : List X) (n : ℕ) (x : X) → map f ks ≡ rule.kept → map f rs ≡ rule.removed → n ≢ 0 → n - 1 < length ks → x ≡ get_or ks (n - 1) x → head_at rule n ≡ Some (f x)
-head_kept f rule ks rs zero x k r ne h e = grind arith
-head_kept f rule ks rs (suc j) x k r ne h e = head_read f rule ks rs j x k r (omega arith) (grind (arith, get_or_append_left))
-
+-- a removed head, read from its own list
 pub head_removed : {X : Type 0} (f : X → RuleAtom ℕ) (rule : Simpagation ℕ) (ks rs : List X) (n : ℕ) (x : X) → map f ks ≡ rule.kept → map f rs ≡ rule.removed → n ≢ 0 → length ks ≤ n - 1 → n ≤ length ks + length rs → x ≡ get_or rs (n - 1 - length ks) x → head_at rule n ≡ Some (f x)
 head_removed f rule ks rs zero x k r ne h l e = grind arith
 head_removed f rule ks rs (suc j) x k r ne h l e = head_read f rule ks rs j x k r (omega arith) (grind (arith, get_or-append_right ks rs (length ks) j x refl))
+
+some_read : {X : Type 0} (found : Option X) (x : X) → found ≡ Some x → IsSome found
+some_read found x e = subst IsSome (sym e) refl
+
+-- which numbers have a head
+pub head_there : (rule : Simpagation ℕ) (n : ℕ) → n ≢ 0 → n ≤ length rule.kept + length rule.removed → IsSome (head_at rule n)
+head_there rule zero ne l = grind arith
+head_there rule (suc j) ne l = grind (arith, slice_get_cases (heads_of rule) j, some_read, length-append)
+
+pub there_within : (rule : Simpagation ℕ) (n : ℕ) → IsSome (head_at rule n) → (n ≢ 0) × (n ≤ length rule.kept + length rule.removed)
+there_within rule zero h = cc
+there_within rule (suc j) h = grind (arith, slice_get_cases (heads_of rule) j, length-append)

@@ -1,5 +1,5 @@
 //! Rules.
-ghost use Rattle.std.specs.Prelude.{◌≡◌, ◌+◌, ◌<◌, ◌≤◌, ℕ, length, map, IsSome, IfSome, IsTrue, ◌↔◌};
+ghost use Rattle.std.specs.Prelude.{◌≡◌, ◌+◌, ◌<◌, ◌≤◌, ℕ, length, map, Some, IsSome, IfSome, IsTrue, ◌↔◌};
 ghost use Rattle.std.specs.Option.{option_map};
 ghost use Rattle.chr_rule.specs.Parts.{shape, comparison, member};
 ghost use Rattle.chr_rule.specs.Rules.{head_at, of_parts};
@@ -218,21 +218,30 @@ impl<A: Allocator> Rule<A> {
         self.kept.len() + self.removed.len()
     }
 
-    /// The head of a number, from 1: kept heads first.
+    /// The head of a number that the rule has, from 1: kept heads first.
+    #[inline(always)]
+    pub fn head_at(&self, number: usize) -> &RuleAtom<A>
+        requires { IsSome (head_at self.now number) }
+        ensures head { Some (shape result.now) ≡ head_at self.now number }
+        ensures valid { IsRule self.now }
+    {
+        let place = number - 1;
+        if place < self.kept.len() {
+            &self.kept[place]
+        } else {
+            &self.removed[place - self.kept.len()]
+        }
+    }
+
+    /// The same, or None where there is no such head.
     pub fn head(&self, number: usize) -> Option<&RuleAtom<A>>
         ensures head { option_map (λ head. shape head.now) result ≡ head_at self.now number }
         ensures valid { IsRule self.now }
     {
-        let kept = self.kept();
-        let removed = self.removed();
-        if number == 0 || kept.len() + removed.len() < number {
+        if self.heads() < number || number == 0 {
             return None;
         }
-        let place = number - 1;
-        if place < kept.len() {
-            return Some(&kept[place]);
-        }
-        Some(&removed[place - kept.len()])
+        Some(self.head_at(number))
     }
 
     /// The comparisons of the guard.

@@ -1,4 +1,4 @@
-use Rattle.std.proofs.Common.{◌<◌, length, arith}
+use Rattle.std.proofs.Common.{arith}
 use Rattle.chr_rule.proofs.Lists.{differ_at}
 use Rattle.chr_rule.proofs.Places.{differ_long, same_more, same_told}
 use Rattle.chr_rule.proofs.parts.are_same.Goals as goal
