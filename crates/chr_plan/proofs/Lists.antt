@@ -1,5 +1,5 @@
 -- What a slice has at an index, and plans by their numbers.
-use Rattle.std.proofs.Common.{◌≡◌, ℕ, zero, suc, ◌+◌, ◌-◌, ◌<◌, Bool, true, false, not, cond, replicate, ltb, List, [], ◌∷◌, ◌++◌, map, length, Option, Some, None, position, slice_index_or, slice_get, refl, sym, ap, ◌∙◌, arith, ◌⊎◌, inl}
+use Rattle.std.proofs.Common.{◌≡◌, ℕ, zero, suc, ◌+◌, ◌-◌, ◌<◌, Bool, true, false, not, cond, replicate, ltb, List, [], ◌∷◌, ◌++◌, map, length, Option, Some, None, IsSome, position, slice_index_or, slice_get, refl, sym, ap, ◌∙◌, arith, ◌⊎◌, inl}
 use Rattle.std.specs.List.{prefix_len}
 use Rattle.std.specs.Option.{option_map}
 use Rattle.std.proofs.lemmas.Bool.{ltb-true, ltb-false}
@@ -9,15 +9,18 @@ use Rattle.chr_rule.specs.declared.rule_atom.RuleAtom.{RuleAtom as CodeRuleAtom}
 use Rattle.chr_plan.specs.Orders.{is_known, key_in}
 use Rattle.chr_plan.specs.Plans.{PlanList, order_in, plan_at}
 use Rattle.chr_plan.specs.declared.order.Step.{Step}
-use Rattle.std.proofs.lemmas.Option.{slice_get-map, slice_get_past, slice_get_read}
+use Rattle.std.proofs.lemmas.Option.{slice_get-map, slice_get_past, slice_get_read, slice_get_within, slice_get_cases}
 use Rattle.std.proofs.lemmas.List.{length-map}
 
 -- what `get` answers, read by a function
 pub got_none : {A B : Type 0} (f : A → B) (xs : List A) (i : ℕ) → false ≡ ltb i (length xs) → None ≡ slice_get (map f xs) i
 got_none f xs i t = sym (slice_get-map f xs i ∙ ap (option_map f) (slice_get_past xs i (ltb-false i (length xs) (sym t))))
 
+pub got_at : {A B : Type 0} (f : A → B) (xs : List A) (i : ℕ) (x : A) → i < length xs → x ≡ slice_index_or xs i x → Some (f x) ≡ slice_get (map f xs) i
+got_at f xs i x within e = sym (slice_get-map f xs i ∙ ap (option_map f) (slice_get_read xs (length xs) i x refl within e))
+
 pub got_some : {A B : Type 0} (f : A → B) (xs : List A) (i : ℕ) (x : A) → true ≡ ltb i (length xs) → x ≡ slice_index_or xs i x → Some (f x) ≡ slice_get (map f xs) i
-got_some f xs i x t e = sym (slice_get-map f xs i ∙ ap (option_map f) (slice_get_read xs (length xs) i x refl (ltb-true i (length xs) (sym t)) e))
+got_some f xs i x t e = got_at f xs i x (ltb-true i (length xs) (sym t)) e
 
 -- an element of a list that takes one more is an old one, or it
 pub get_pushed : {A : Type 0} (xs : List A) (y z : A) (i : ℕ) → slice_get (xs ++ y ∷ []) i ≡ Some z → (slice_get xs i ≡ Some z) ⊎ ((i ≡ length xs) × (y ≡ z))
@@ -51,6 +54,34 @@ plan_got rows items xs slice plans v ys r h k o view same is num p q t e f =
     plan_there plans r h (map items (rows v)) o p q
     (got_some (λ v. map items (rows v)) slice (r - 1) v t e ∙ ap (λ z. slice_get (map (λ v. map items (rows v)) z) (r - 1)) same ∙ ap (λ (z : PlanList). slice_get z (r - 1)) view)
     (f ∙ ap (λ z. slice_get (map items z) (k - 1)) is ∙ ap (λ n. slice_get (map items (rows v)) (n - 1)) num)
+
+-- a rule and a head that have a plan, by what holds the plans of the rule
+order_some : (orders : Option (List (List Step))) (h : ℕ) → IsSome (order_in orders h) → (found : List (List Step)) × (orders ≡ Some found) × (0 < h) × (h - 1 < length found)
+order_some None h s = cc
+order_some (Some found) zero s = cc
+order_some (Some found) (suc h) s = (found, refl, omega arith, grind (arith, slice_get_cases found h))
+
+plan_some : (plans : PlanList) (r h : ℕ) → IsSome (plan_at plans r h) → (found : List (List Step)) × (0 < r) × (slice_get plans (r - 1) ≡ Some found) × (0 < h) × (h - 1 < length found)
+plan_some plans zero h s = cc
+plan_some plans (suc r) h s = let o = order_some (slice_get plans r) h s in (o.0, omega arith, grind (arith, o.1), o.2, o.3)
+
+module _ {V O : Type 0} (rows : V → List O) (items : O → List Step) (xs : List V) (plans : PlanList) (view : map (λ v. map items (rows v)) xs ≡ plans) (r h : ℕ) (there : IsSome (plan_at plans r h)) (v : V) (k : ℕ) (num : k ≡ r) (is : v ≡ slice_index_or xs (k - 1) v) where
+  row_there : Some (map items (rows v)) ≡ slice_get plans (r - 1)
+  row_there =
+      let o = plan_some plans r h there in
+      let within : k - 1 < length xs = omega (arith, num, slice_get_within plans (r - 1) o.0 o.2, ap length view, length-map xs (λ v. map items (rows v))) in
+      got_at (λ v. map items (rows v)) xs (k - 1) v within is ∙ ap (λ (z : PlanList). slice_get z (k - 1)) view ∙ ap (λ n. slice_get plans (n - 1)) num
+
+  -- the rule's list has the head's plan, and that is the plan
+  pub plan_within : h - 1 < length (rows v)
+  plan_within = let o = plan_some plans r h there in let same : map items (rows v) ≡ o.0 = grind (arith, row_there, o.2) in omega (arith, o.4, ap length same, length-map (rows v) items)
+
+  pub plan_read : (j : ℕ) (order : O) (steps : List Step) → j ≡ h → order ≡ slice_index_or (rows v) (j - 1) order → steps ≡ items order → Some steps ≡ plan_at plans r h
+  plan_read j order steps number e same =
+      let o = plan_some plans r h there in
+      let within : j - 1 < length (rows v) = omega (arith, number, plan_within) in
+      plan_there plans r h (map items (rows v)) (Some steps) o.1 o.3 row_there
+      (ap (λ (s : List Step). Some s) same ∙ got_at items (rows v) (j - 1) order within e ∙ ap (λ n. slice_get (map items (rows v)) (n - 1)) number)
 
 pub nothing : (n x : ℕ) → slice_index_or (replicate n false) x false ≡ false
 nothing zero x = refl

@@ -1,5 +1,5 @@
 //! The plans of a program.
-ghost use Rattle.std.specs.Prelude.{◌≡◌, map, IfOk};
+ghost use Rattle.std.specs.Prelude.{◌≡◌, map, Some, IsSome, IfOk};
 ghost use Rattle.std.specs.Option.{option_map};
 ghost use Rattle.chr_plan.specs.Plans.{plan_at, AreOrders, ArePlans};
 ghost use Rattle.chr_plan.specs.Places.{places_of};
@@ -66,6 +66,15 @@ impl<A: Allocator + Copy> Plans<A> {
         let orders = self.rules.get(rule - 1)?;
         let order = orders.get(usize::from(head) - 1)?;
         Some(order.as_slice())
+    }
+
+    /// The plan of a rule and a head that the program has, both by their numbers from 1.
+    #[inline(always)]
+    pub fn plan_at(&self, rule: u16, head: u8) -> &[Step]
+        requires { IsSome (plan_at self.now rule head) }
+        ensures { Some result.now ≡ plan_at self.now rule head }
+    {
+        self.rules[usize::from(rule) - 1][usize::from(head) - 1].as_slice()
     }
 
     /// The places that plans look up: each pair of a predicate and a place, from 1, that is a key in some plan, once, in
