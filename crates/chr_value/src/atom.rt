@@ -105,8 +105,9 @@ pub struct Atom<A: Allocator> {
 // Atoms are stored, copied and moved everywhere.
 const _: () = prove!(size_of::<Atom<Global>>() == 48);
 
-// Not derived: letting an atom go is then one call, which is proved here once.
+// Not derived: letting an atom go is then proved here once. It is inlined, since beside most atoms lies nothing to let go.
 impl<A: Allocator> Drop for Atom<A> {
+    #[inline(always)]
     fn drop(self) {
         let Atom {
             front: _,

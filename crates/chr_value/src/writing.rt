@@ -48,11 +48,8 @@ fn put_before<C: Allocator>(out: &mut Vec<u8, C>, index: usize) -> Result<(), Al
     ensures writes { OnOk result (out.new.items ≡ out.old.items ++ mark_before index ∷ []) }
     ensures keeps { take (length out.old.items) out.new.items ≡ out.old.items }
 {
-    if index == 0 {
-        out.extend_from_slice(b"(")
-    } else {
-        out.extend_from_slice(b",")
-    }
+    out.push(if index == 0 { b'(' } else { b',' })?;
+    Ok(())
 }
 
 /// What stands behind the arguments: `)`, and nothing where there are none.
@@ -61,10 +58,9 @@ fn put_behind<C: Allocator>(out: &mut Vec<u8, C>, count: usize) -> Result<(), Al
     ensures keeps { take (length out.old.items) out.new.items ≡ out.old.items }
 {
     if count > 0 {
-        out.extend_from_slice(b")")
-    } else {
-        Ok(())
+        out.push(b')')?;
     }
+    Ok(())
 }
 
 #[cycle(put)]
