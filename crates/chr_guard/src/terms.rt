@@ -246,23 +246,15 @@ impl<'v, A: Allocator + Copy> Binding<'v, A> {
     }
 
     /// Whether two terms have values within the limits, and the same one where `are_same` says so, or else different ones.
-    #[inline(always)]
+    // A call, since comparisons of numbers are far more frequent, and a judgement is to be short enough to be inlined.
+    #[inline(never)]
     pub(crate) fn are_compared(&self, s: &Term<A>, t: &Term<A>, are_same: bool) -> bool
         ensures same { are_same ≡ true → (IsTrue result ↔ WhereBoth (λ a b. a ≡ b) (value_under (bound_at self.now) (argument s.now)) (value_under (bound_at self.now) (argument t.now))) }
         ensures differ { are_same ≡ false → (IsTrue result ↔ WhereBoth (λ a b. a ≢ b) (value_under (bound_at self.now) (argument s.now)) (value_under (bound_at self.now) (argument t.now))) }
     {
         match (self.plain(s), self.plain(t)) {
             (Some(a), Some(b)) => same_plain(a, b) == are_same,
-            _ => self.are_compared_in_full(s, t, are_same),
+            _ => self.has_value(s) && self.has_value(t) && self.same(s, t) == are_same,
         }
-    }
-
-    /// The same for any terms, by a call.
-    #[inline(never)]
-    fn are_compared_in_full(&self, s: &Term<A>, t: &Term<A>, are_same: bool) -> bool
-        ensures same { are_same ≡ true → (IsTrue result ↔ WhereBoth (λ a b. a ≡ b) (value_under (bound_at self.now) (argument s.now)) (value_under (bound_at self.now) (argument t.now))) }
-        ensures differ { are_same ≡ false → (IsTrue result ↔ WhereBoth (λ a b. a ≢ b) (value_under (bound_at self.now) (argument s.now)) (value_under (bound_at self.now) (argument t.now))) }
-    {
-        self.has_value(s) && self.has_value(t) && self.same(s, t) == are_same
     }
 }

@@ -132,8 +132,7 @@ fn compared<A: Allocator + Copy>(
             ValueRef::Int(n) => n,
             _ => return false,
         },
-        // By a call: written out on both sides, a comparison would be too long to be inlined wherever a trial is judged.
-        Expr::Operation(operator, a, b) => match nested(*operator, a, b, binding) {
+        Expr::Operation(operator, a, b) => match operation(*operator, a, b, binding) {
             Some(n) => n,
             None => return false,
         },
