@@ -3,7 +3,6 @@ use Rattle.std.specs.Prelude.{◌≡◌, ◌≢◌, ℕ, zero, suc, ◌+◌, ◌
 use Rattle.std.specs.List.{AllByRecursion}
 use Rattle.chr_value.specs.Atoms.{Value}
 use Rattle.chr_value.specs.Stores.{atom_at}
-use Rattle.chr_rule.specs.Parts.{comparison}
 use Rattle.chr_guard.specs.Bindings.{AreKnown}
 use Rattle.chr_model.specs.Stores.{among}
 use Rattle.chr_search.specs.declared.judged.Verdict.{Verdict}
@@ -120,12 +119,11 @@ pub record PassesPlan (j : Join) (place : List ℕ) (passed : Passed) (ls : List
   pub ends : EndsIn j after passed.end ls binding
 
 -- what the trials of these labels and one more have in common: which variables the labels bind,
--- where the last one stands, the rule's guard, and perhaps the labels among which it is
+-- where the last one stands, and perhaps the labels among which it is
 pub record IsLevel {Z : Type 0} (j : Join) (ls : List ℕ) (binding : List (Option (Value ℕ)))
     (level : CodeLevel Z) : Type 0 where
   pub known : AreKnown level.known binding
   pub at : IsLastHead j ls level.at
-  pub guard : map comparison level.guard.now ≡ j.rule.guard
   pub partners : IfSome level.partners (GivePartners j ls)
 
 -- where the answer is yes the label may be tried after these and this binds them all, and where it

@@ -1,9 +1,8 @@
 //! Trials in the store that are judged without being made.
-ghost use Rattle.std.specs.Prelude.{◌≡◌, ◌↔◌, ◌==◌, ◌≤◌, ◌<◌, ◌+◌, ◌^◌, ◌∷◌, ◌++◌, [], ℕ, max, List, length, drop, map, Some, IfSome, IsSome, MatchOption, IsTrue};
+ghost use Rattle.std.specs.Prelude.{◌≡◌, ◌↔◌, ◌==◌, ◌≤◌, ◌<◌, ◌+◌, ◌^◌, ◌∷◌, ◌++◌, [], ℕ, max, List, length, drop, Some, IfSome, MatchOption, IsTrue};
 ghost use Rattle.std.specs.List.{list_any};
-ghost use Rattle.chr_value.specs.Atoms.{Atom as AtomView};
+ghost use Rattle.std.specs.Option.{option_map};
 ghost use Rattle.chr_value.specs.Stores.{atom_at};
-ghost use Rattle.chr_rule.specs.Parts.{comparison};
 ghost use Rattle.chr_guard.specs.Bindings.{Keeps};
 ghost use Rattle.chr_search.specs.declared.passing.End.TheVariants as ends;
 ghost use Rattle.chr_search.specs.declared.passing.Stop.TheVariants as stops;
@@ -20,7 +19,7 @@ use crate::position::set_alone;
 use crate::search::Instance;
 use chr_guard::instance::becomes_instance;
 use chr_guard::{Binding, Known, bind_partner, fit_partner};
-use chr_rule::Comparison;
+use chr_rule::Rule;
 use chr_store::{Label, Matches};
 use chr_value::Atom;
 use std::alloc::Allocator;
@@ -57,8 +56,6 @@ pub(crate) struct Level<'s, A: Allocator> {
     /// The variables that the labels before the last bind.
     known: Known,
     at: LastHead<'s, A>,
-    /// The comparisons of the rule's guard.
-    guard: &'s [Comparison<A>],
     /// The labels among which it is. None where the store has no index for them, or it is the active one.
     pub(crate) partners: Option<Matches<'s>>,
 }
@@ -188,7 +185,6 @@ impl<'s, A: Allocator + Copy> Join<'s, A> {
         Some(Level {
             known: binding.known(),
             at,
-            guard: self.rule.guard(),
             partners: self.partners(at, labels, binding),
         })
     }
@@ -208,7 +204,6 @@ impl<'s, A: Allocator + Copy> Join<'s, A> {
         requires ready { IsReady (join_of self.now) labels.now binding.now }
         requires level { IsLevel (join_of self.now) labels.now binding.now level.old }
         ensures least { IsPartnerFrom (join_of self.now) labels.now (after + 1) result }
-        ensures older { IsSome level.new.partners → IfSome result (λ label. label < self.now.view.active) }
         ensures same { level.new ≡ level.old }
     {
         match &mut level.partners {
@@ -217,20 +212,37 @@ impl<'s, A: Allocator + Copy> Join<'s, A> {
         }
     }
 
-    /// The atom under a label that was found at a level.
+    /// The least label over one at a level, with its atom.
     #[inline(always)]
-    fn atom_of(&self, level: &Level<'s, A>, label: Label) -> &'s Atom<A>
-        requires older { IsSome level.now.partners → label < self.now.view.active }
-        requires live { (atom : AtomView ℕ) × (atom_at self.now.view.store.entries label ≡ Some atom) }
-        ensures { atom_at self.now.view.store.entries label ≡ Some result.now }
+    fn next_atom_after(
+        &self,
+        level: &mut Level<'s, A>,
+        labels: &[Label],
+        binding: &Binding<'s, A>,
+        after: Label,
+    ) -> Option<(Label, &'s Atom<A>)>
+        requires small { after + 1 < 2 ^ 64 }
+        requires begins { MayFollow (join_of self.now) [] self.now.view.active }
+        requires plan { HasPlan (join_of self.now) }
+        requires ready { IsReady (join_of self.now) labels.now binding.now }
+        requires level { IsLevel (join_of self.now) labels.now binding.now level.old }
+        ensures least { IsPartnerFrom (join_of self.now) labels.now (after + 1) (option_map (λ found. found.0) result) }
+        ensures atom { IfSome result (λ found. atom_at self.now.view.store.entries found.0 ≡ Some found.1.now) }
+        ensures same { level.new ≡ level.old }
     {
-        if level.partners.is_some() {
-            return self.view.older(label);
+        match &mut level.partners {
+            Some(partners) => {
+                let label = partners.next_at(after, self.view.active())?;
+                Some((label, self.view.older(label)))
+            }
+            None => {
+                let label = self.next_child(labels, binding, after + 1)?;
+                let Some(atom) = self.view.get(label) else {
+                    unreachable!();
+                };
+                Some((label, atom))
+            }
         }
-        let Some(atom) = self.view.get(label) else {
-            unreachable!();
-        };
-        atom
     }
 
     /// How the trial of a path and one label more, which has this atom, is judged, where `narrowed` is the binding of the
@@ -239,13 +251,13 @@ impl<'s, A: Allocator + Copy> Join<'s, A> {
     fn judge_at(
         &self,
         at: LastHead<'s, A>,
-        guard: &[Comparison<A>],
+        rule: &Rule<A>,
         path: Path<'_>,
         label: Label,
         atom: &'s Atom<A>,
         narrowed: &mut Binding<'s, A>,
     ) -> Verdict
-        requires guard { map comparison guard.now ≡ self.now.rule.now.guard }
+        requires rule { rule.now ≡ self.now.rule.now }
         requires others { path.others.now ≡ drop 1 path.labels.now }
         requires plan { HasPlan (join_of self.now) }
         requires at { IsLastHead (join_of self.now) path.labels.now at }
@@ -269,7 +281,7 @@ impl<'s, A: Allocator + Copy> Join<'s, A> {
         if !at.is_last {
             return Verdict::Part;
         }
-        if becomes_instance(self.rule, guard, narrowed) {
+        if becomes_instance(rule, rule.guard(), narrowed) {
             return Verdict::Whole;
         }
         Verdict::Misfit
@@ -298,16 +310,17 @@ impl<'s, A: Allocator + Copy> Join<'s, A> {
         ensures keeps { Keeps binding.old binding.new }
     {
         let path = Path::of(instance.labels.as_slice());
+        let rule = self.rule;
         let mut count = 0;
         // The label found last.
         let mut after = from.saturating_sub(1);
         while count < most {
-            let Some(label) = self.next_after(level, path.labels, binding, after) else {
+            let Some((label, atom)) = self.next_atom_after(level, path.labels, binding, after)
+            else {
                 let (next, then) = (after + 1, Next::NoneLeft);
                 return Run { count, next, then };
             };
-            let atom = self.atom_of(level, label);
-            match self.judge_at(level.at, level.guard, path, label, atom, binding) {
+            match self.judge_at(level.at, rule, path, label, atom, binding) {
                 Verdict::Misfit => {}
                 Verdict::Part => {
                     let (next, then) = (after + 1, Next::Part(label));
@@ -473,7 +486,7 @@ impl<'s, A: Allocator + Copy> Join<'s, A> {
             unreachable!();
         };
         binding.reset(self.rule.variables());
-        self.judge_at(at, self.rule.guard(), Path::of(&[]), active, atom, binding)
+        self.judge_at(at, self.rule, Path::of(&[]), active, atom, binding)
     }
 
     /// Passes over the trials from the first one on, up to one that is whole, at most so many. All of them begin with the

@@ -2,7 +2,7 @@ use Rattle.std.proofs.Common.{◌≡◌, true, false, Some, length, [], ◌∷�
 use Rattle.chr_rule.specs.Parts.{shape}
 use Rattle.chr_rule.specs.Scope.{IsRule}
 use Rattle.chr_guard.specs.Bindings.{Keeps, Narrows}
-use Rattle.chr_guard.specs.Instances.{atom_under}
+use Rattle.chr_guard.specs.Instances.{NoInstance, atom_under}
 use Rattle.chr_guard.specs.Matching.{IsFit, HeadsAre, IsInstanceUnder}
 use Rattle.chr_guard.proofs.Bindings.{keeps_both}
 use Rattle.chr_guard.proofs.Scoped.{IsPlaced}
@@ -87,11 +87,11 @@ returns-then-not-at-clause-tried g c =
 full : (g : _) (c : Joined-at g) → (t : Trial) → IsTrialIn (join_of c.args.self.now) (c.args.path.labels.now ++ c.args.label ∷ []) t → c.args.at.is_last ≡ true → length t.placed ≡ length (heads_of t.rule)
 full g c t i last = is_full _ _ t i (omega (arith, c.requires.at.last.0 last, length-append c.args.path.labels.now (c.args.label ∷ [])))
 
-heads : (g : _) (c : Joined-at g) → (t : Trial) → IsTrialIn (join_of c.args.self.now) (c.args.path.labels.now ++ c.args.label ∷ []) t → c.args.at.is_last ≡ true → IsFit c.args.self.now.rule.now (HeadsAre c.args.self.now.rule.now (in_head_order t)) c.if-at.narrowed
-heads g c t i last = heads_fit _ _ t i (full g c t i last) _ (ready g c).fit
+heads : (g : _) (c : Joined-at g) → (t : Trial) → IsTrialIn (join_of c.args.self.now) (c.args.path.labels.now ++ c.args.label ∷ []) t → c.args.at.is_last ≡ true → IsFit c.args.rule.now (HeadsAre c.args.rule.now (in_head_order t)) c.if-at.narrowed
+heads g c t i last = subst (λ r. IsFit r (HeadsAre r (in_head_order t)) c.if-at.narrowed) (sym c.requires.rule) (heads_fit _ _ t i (full g c t i last) _ (ready g c).fit)
 
 pub becomes_instance-requires : goal.becomes_instance-requires
-becomes_instance-requires g c = (omega arith, (c.requires.guard, (in_head_order c.requires.trial.0, heads g (goal.at.becomes_instance-requires g c).Joined-at _ c.requires.trial.1 c.if-not-at.false)))
+becomes_instance-requires g c = (omega arith, (c.guard.ensures.tests, (in_head_order c.requires.trial.0, heads g (goal.at.becomes_instance-requires g c).Joined-at _ c.requires.trial.1 c.if-not-at.false)))
 
 pub returns-then-not-at-clause-keeps : goal.returns-then-not-at-clause-keeps
 returns-then-not-at-clause-keeps g c = kept g (goal.at.returns-then-not-at-clause-keeps g c).Joined-at
@@ -106,9 +106,10 @@ pub returns-then-becomes_instance-clause-tried : goal.returns-then-becomes_insta
 returns-then-becomes_instance-clause-tried g c = λ t i.
     let at = (goal.at.returns-then-becomes_instance-clause-tried g c).Joined-at in
     completed t i.formed (full g at t i c.if-not-at.false) (subst Distinct (sym i.labels_are) (ready g at).distinct) (Some c.becomes_instance.new.binding)
-    (subst (λ x. IsInstanceUnder x (in_head_order t) c.becomes_instance.new.binding) (sym i.rule_is) (c.if-becomes_instance.ensures.instance (in_head_order t) (heads g at t i c.if-not-at.false)))
+    (subst (λ x. IsInstanceUnder x (in_head_order t) c.becomes_instance.new.binding) (c.requires.rule ∙ sym i.rule_is) (c.if-becomes_instance.ensures.instance (in_head_order t) (heads g at t i c.if-not-at.false)))
 
 pub returns-clause-tried : goal.returns-clause-tried
 returns-clause-tried g c = λ t i.
     let at = (goal.at.returns-clause-tried g c).Joined-at in
-    misfit_here _ _ t i (full g at t i c.if-not-at.false) (c.if-becomes_instance.ensures.instance (in_head_order t) (heads g at t i c.if-not-at.false))
+    misfit_here _ _ t i (full g at t i c.if-not-at.false)
+    (subst (λ x. NoInstance x (in_head_order t)) c.requires.rule (c.if-becomes_instance.ensures.instance (in_head_order t) (heads g at t i c.if-not-at.false)))

@@ -1,4 +1,4 @@
-use Rattle.std.proofs.Common.{ℕ, List, [], ◌∷◌, ◌++◌, drop, sym, ap, subst, ◌∙◌, arith}
+use Rattle.std.proofs.Common.{ℕ, List, [], ◌∷◌, ◌++◌, drop, refl, sym, ap, subst, ◌∙◌, arith}
 use Rattle.chr_search.specs.Joined.{join_of}
 use Rattle.chr_search.specs.Partners.{IsReady, IsLastHead}
 use Rattle.chr_search.specs.Passing.{IsTrialIn, IsTried}
@@ -20,7 +20,7 @@ judge_at-requires g c =
     let grows = subst (Grows (MayFollow j) []) none tt in
     let follows = subst (MayFollow j c.of.result.labels.now) same (subst (λ (ls : List ℕ). MayFollow j ls c.args.self.now.view.active) none begins) in
     let trial = subst (λ (ls : List ℕ). (t : Trial) × IsTrialIn j (ls ++ c.active-active.result ∷ []) t) none (subst (λ (l : ℕ). (t : Trial) × IsTrialIn j (l ∷ []) t) same (c.requires.begins.trials (c.args.self.now.view.active ∷ []) (omega arith) (begins, tt))) in
-    (omega arith, (c.guard.ensures.tests, (others, (c.requires.begins.plan, (at, (ready, (grows, (follows, (sym c.in-Some-get.ensures, trial)))))))))
+    (omega arith, (refl, (others, (c.requires.begins.plan, (at, (ready, (grows, (follows, (sym c.in-Some-get.ensures, trial)))))))))
 
 pub returns : goal.returns
 returns g c =
