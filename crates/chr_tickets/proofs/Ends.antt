@@ -1,51 +1,160 @@
--- Tickets that come and go at the ends of the queue, and walks over it.
-use Rattle.std.proofs.Common.{◌≡◌, ℕ, zero, suc, ◌+◌, ◌-◌, ◌^◌, ◌%◌, ◌<◌, ◌≤◌, min, false, List, [], ◌∷◌, ◌++◌, map, Some, None, length, take, drop, get_or, set, replicate, refl, sym, ap, subst, ◌∙◌, ⊎_elim, arith, append-nil, append_assoc, Bool, true, true-eqb}
+-- Tickets that come and go at the ends of the slots, and walks over them.
+use Rattle.std.proofs.Common.{◌≡◌, ℕ, zero, suc, ◌+◌, ◌-◌, ◌^◌, ◌%◌, ◌<◌, ◌≤◌, min, max, false, List, [], ◌∷◌, ◌++◌, map, Some, None, length, take, drop, get_or, set, replicate, refl, sym, ap, subst, ◌∙◌, ⊎_elim, arith, append-nil, append_assoc, Bool, true, true-eqb}
 use Rattle.std.specs.Option.{IsSome}
 use Rattle.std.proofs.lemmas.Bool.{cases_lt, cases_eq, false≢true, false_from_ne_true}
-use Rattle.std.proofs.lemmas.List.{get_or_past, get_or_append_left, get_or_push, get_or-take, length-append, length-take, length-replicate, map-append, take-append-le, take-map, take-replicate, replicate-append-replicate}
-use Rattle.std.proofs.Math.Seq.{take-append-add}
+use Rattle.std.proofs.lemmas.List.{get_or_past, get_or_append_left, get_or_push, get_or-take, length-append, length-take, length-replicate, map-append, take-append-le, take-map, take-replicate, replicate-append-replicate, length-drop, drop_more, drop-set, drop-take, drop_all, get_or-drop, take-set-le, take_more_same, take_rest, drop-set-lt, drop-append-le}
+use Rattle.std.proofs.lemmas.List.Edits.{swap_is, length-swap}
+use Rattle.std.specs.List.{swap, SwappedAt}
+use Rattle.std.proofs.Math.Seq.{take-append-add, drop-nil}
 use Rattle.chr_model.specs.Goals.{Ended}
 use Rattle.chr_calls.specs.Tickets.{Ticket, ended, ticket_at, AreQuiet, state_of, IsStray, IsOpenFor, waits_for, held_for, rests_for, IsLeastFor, NoneFor}
 use Rattle.chr_tickets.specs.declared.ticket.Ticket.{Ticket as CodeTicket}
 use Rattle.chr_tickets.specs.Open.{shown_ticket, state_in, is_open_for}
-use Rattle.chr_tickets.specs.Listed.{Slot, shown_or_ended, listed, StartsOpen, AreUnmarked, AreQueued}
-use Rattle.chr_tickets.proofs.Changes.{placed, put, read_before, read_at, read_past, unmarked_set, kept, shown_open, state_found, state_known}
+use Rattle.chr_tickets.specs.Listed.{Slot, shown_or_ended, listed, StartsOpen, AreUnmarked, AreQueued, AreSlots}
+use Rattle.chr_tickets.proofs.Changes.{Stands, placed, put, here, length_shown, read_before, read_at, read_past, unmarked_set, kept, shown_open, state_found, state_known}
 use borrow.Author.Count.{below_more}
 use Rattle.std.proofs.lemmas.Bool.Decides.{nat_tests}
 use Rattle.chr_calls.specs.declared.answers.TicketState.{TicketState}
 use Rattle.chr_calls.specs.declared.answers.TicketState.TheVariants as states
 
--- ---- the first slot goes
+-- ---- the first slots hold nothing that counts
 
-pub popped : {Z : Type 0} (first : ℕ) (slots rest : List (Slot Z)) (slot : Slot Z) → 0 < length slots → slot ≡ None → slot ≡ get_or slots 0 slot → rest ≡ drop 1 slots → listed (first + 1) rest ≡ listed first slots
+listed_over : {Z : Type 0} (first : ℕ) (slots : List (Slot Z)) → listed (first + 1) slots ≡ listed first (None ∷ slots)
 unfolding listed
-popped first [] rest front some none is e = absurd (omega arith)
-popped {Z} first (slot ∷ slots) rest front some none is e =
-    ap (λ xs. replicate (first + 1) ended ++ map shown_or_ended xs) e
-    ∙ ap (λ xs. xs ++ map shown_or_ended slots) (sym (replicate-append-replicate first 1 ended))
+listed_over first slots =
+    ap (λ xs. xs ++ map shown_or_ended slots) (sym (replicate-append-replicate first 1 ended))
     ∙ append_assoc (replicate first ended) (ended ∷ []) (map shown_or_ended slots)
-    ∙ ap (λ (x : Slot Z). replicate first ended ++ shown_or_ended x ∷ map shown_or_ended slots) (sym none ∙ is)
 
--- the ticket of the first slot ends
-pub ended_first : {Z : Type 0} {first m : ℕ} {L : List Ticket} (t k : ℕ) (slots rest : List (Slot Z)) → AreQueued first slots m → listed first slots ≡ L → (first + k) % 2 ^ 64 ≡ t → k ≡ 0 → 0 < length slots → rest ≡ drop 1 slots → listed (first + 1) rest ≡ set L t ended
-ended_first t k [] rest g e at none some is = absurd (omega arith)
-ended_first {Z} {first} t k (slot ∷ slots) rest g e at none some is = popped first (None ∷ slots) rest None (omega arith) refl refl is ∙ put None (placed t 0 g (omega arith) some) e
+-- a step over an empty slot
+pub over_empty : {Z : Type 0} (first k : ℕ) (slots : List (Slot Z)) (slot : Slot Z) → k < length slots → slot ≡ None → slot ≡ get_or slots k slot → listed (first + (k + 1)) (drop (k + 1) slots) ≡ listed (first + k) (drop k slots)
+over_empty {Z} first k slots slot within none is =
+    ap (λ n. listed n (drop (k + 1) slots)) (let e : first + (k + 1) ≡ first + k + 1 = omega arith in e)
+    ∙ listed_over (first + k) (drop (k + 1) slots)
+    ∙ ap (λ (x : Slot Z). listed (first + k) (x ∷ drop (k + 1) slots)) (sym none ∙ is)
+    ∙ ap (listed (first + k)) (sym (drop_more slots k slot within))
 
--- ---- a slot behind the first is emptied
+-- what stays, where some of the slots that are gone are let go
+pub drop_twice : {X : Type 0} (n m : ℕ) (xs : List X) → drop m (drop n xs) ≡ drop (n + m) xs
+drop_twice zero m xs = ap (λ k. drop k xs) (let e : m ≡ zero + m = omega arith in e)
+drop_twice (suc n) m [] = drop-nil m ∙ sym (drop-nil (suc n + m))
+drop_twice (suc n) m (x ∷ xs) = drop_twice n m xs ∙ ap (λ k. drop k (x ∷ xs)) (let e : suc (n + m) ≡ suc n + m = omega arith in e)
 
--- no mark comes where a ticket ends
-pub unmarked_end : {Z : Type 0} {first m : ℕ} {slots : List (Slot Z)} {L M : List Ticket} (t : ℕ) → AreQueued first slots m → listed first slots ≡ L → M ≡ set L t ended → AreUnmarked M m
-unmarked_end {Z} {first} {m} {slots} {L} t g e after = subst (λ xs. AreUnmarked xs m) (sym after) (unmarked_set L m m t ended (subst (λ xs. AreUnmarked xs m) e g.marks) (omega arith) (λ l. refl))
+-- ---- a ticket ends
 
-pub ended_behind : {Z : Type 0} {first m : ℕ} {slots : List (Slot Z)} {L : List Ticket} (t k : ℕ) → AreQueued first slots m → listed first slots ≡ L → (first + k) % 2 ^ 64 ≡ t → k < length slots → listed first (set slots k None) ≡ set L t ended
-ended_behind t k g e at within = put None (placed t k g at within) e
+-- no mark comes then
+pub unmarked_end : {Z : Type 0} {first gone m : ℕ} {slots : List (Slot Z)} {L M : List Ticket} (t : ℕ) → AreSlots first gone slots m → listed (first + gone) (drop gone slots) ≡ L → M ≡ set L t ended → AreUnmarked M m
+unmarked_end {Z} {first} {gone} {m} {slots} {L} t g e after = subst (λ xs. AreUnmarked xs m) (sym after) (unmarked_set L m m t ended (subst (λ xs. AreUnmarked xs m) e g.queued.marks) (omega arith) (λ l. refl))
 
-pub queued_behind : {Z : Type 0} {first m : ℕ} {slots : List (Slot Z)} {L : List Ticket} (t k : ℕ) → AreQueued first slots m → listed first slots ≡ L → (first + k) % 2 ^ 64 ≡ t → k < length slots → 0 < k → AreQueued first (set slots k None) m
-queued_behind t k g e at within behind = kept _ ended None g e (ended_behind t k g e at within) (λ z. absurd (omega arith)) (omega arith) (λ l. refl)
+-- that of the first slot that counts
+pub ended_first : {Z : Type 0} {first gone m : ℕ} {slots : List (Slot Z)} {L : List Ticket} (t k : ℕ) → AreSlots first gone slots m → listed (first + gone) (drop gone slots) ≡ L → (first + k) % 2 ^ 64 ≡ t → k ≡ gone → k < length slots → listed (first + (k + 1)) (drop (k + 1) slots) ≡ set L t ended
+ended_first {Z} {first} {gone} {m} {slots} {L} t k g e is at within =
+    let one : first + (k + 1) ≡ first + gone + 1 = omega arith in
+    let next : k + 1 ≡ gone + 1 = omega arith in
+    let inside : gone < length slots = omega arith in
+    ap (λ n. listed n (drop (k + 1) slots)) one
+    ∙ ap (λ n. listed (first + gone + 1) (drop n slots)) next
+    ∙ listed_over (first + gone) (drop (gone + 1) slots)
+    ∙ ap (listed (first + gone)) (sym (drop-set slots gone None inside))
+    ∙ put None (placed t gone g (subst (λ n. (first + n) % 2 ^ 64 ≡ t) at is) (omega arith) inside) e
+
+pub slots_first : {Z : Type 0} {first gone m : ℕ} {slots : List (Slot Z)} {L : List Ticket} (t next : ℕ) → AreSlots first gone slots m → listed (first + gone) (drop gone slots) ≡ L → gone ≤ next → next ≤ length slots → StartsOpen (drop next slots) → listed (first + next) (drop next slots) ≡ set L t ended → AreSlots first next slots m
+slots_first {Z} {first} {gone} {m} {slots} {L} t next g e on within starts after =
+    let some = g.queued.some in
+    let fits = g.queued.fits in
+    let inside = g.within in
+    let d = length-drop gone slots in
+    let d_next = length-drop next slots in
+    record {
+      within = within;
+      queued = record { some = omega arith; fits = omega arith; starts = starts; marks = unmarked_end t g e after };
+    }
+
+-- that of a slot behind it, which is emptied
+pub ended_behind : {Z : Type 0} {first gone m : ℕ} {slots : List (Slot Z)} {L : List Ticket} (t k : ℕ) → AreSlots first gone slots m → listed (first + gone) (drop gone slots) ≡ L → (first + k) % 2 ^ 64 ≡ t → gone < k → k < length slots → listed (first + gone) (drop gone (set slots k None)) ≡ set L t ended
+ended_behind t k g e at behind within = put None (placed t k g at (omega arith) within) e
+
+pub slots_behind : {Z : Type 0} {first gone m : ℕ} {slots : List (Slot Z)} {L : List Ticket} (t k : ℕ) → AreSlots first gone slots m → listed (first + gone) (drop gone slots) ≡ L → (first + k) % 2 ^ 64 ≡ t → gone < k → k < length slots → AreSlots first gone (set slots k None) m
+slots_behind t k g e at behind within = kept _ ended None g e (ended_behind t k g e at behind within) (omega arith) (λ z. absurd (omega arith)) (omega arith) (λ l. refl)
+
+-- ---- open slots move to the front
+
+-- the slots before a place are those that counted, and those behind are as they were
+pub record Moves {Z : Type 0} (gone at : ℕ) (before slots : List (Slot Z)) : Type 0 where
+  pub long : length slots ≡ length before
+  pub front : take at slots ≡ take at (drop gone before)
+  pub back : drop (gone + at) slots ≡ drop (gone + at) before
+
+pub moves_none : {Z : Type 0} (gone : ℕ) (slots : List (Slot Z)) → Moves gone 0 slots slots
+moves_none gone slots = record { long = refl; front = refl; back = refl }
+
+swap_sets : {Z : Type 0} (gone at : ℕ) (slots : List (Slot Z)) → gone + at < length slots → swap slots at (gone + at) ≡ set (set slots at (get_or slots (gone + at) None)) (gone + at) (get_or slots at None)
+swap_sets gone at slots within = sym (swap_is slots at (gone + at) None (omega arith) within)
+
+pub moves_more : {Z : Type 0} {gone at : ℕ} {before slots after : List (Slot Z)} → Moves gone at before slots → gone + at < length slots → after ≡ swap slots at (gone + at) → SwappedAt slots after at (gone + at) → Moves gone (at + 1) before after
+moves_more {Z} {gone} {at} {before} {slots} {after} m within is by =
+    let sets = is ∙ swap_sets gone at slots within in
+    let long : length after ≡ length before = ap length is ∙ length-swap slots at (gone + at) ∙ m.long in
+    let d = length-drop gone before in
+    let old = m.long in
+    let last : get_or after at None ≡ get_or (drop gone before) at None =
+    by.0 None
+    ∙ ap (λ n. get_or slots n None) (let e : gone + at ≡ gone + at + 0 = omega arith in e)
+    ∙ sym (get_or-drop (gone + at) slots 0 None)
+    ∙ ap (λ xs. get_or xs 0 None) m.back
+    ∙ get_or-drop (gone + at) before 0 None
+    ∙ ap (λ n. get_or before n None) (let e : gone + at + 0 ≡ gone + at = omega arith in e)
+    ∙ sym (get_or-drop gone before at None) in
+    let front : take at after ≡ take at (drop gone before) =
+    ap (take at) sets
+    ∙ take-set-le at (set slots at (get_or slots (gone + at) None)) (gone + at) (get_or slots at None) (omega arith)
+    ∙ take-set-le at slots at (get_or slots (gone + at) None) (omega arith)
+    ∙ m.front in
+    let one : gone + (at + 1) ≡ gone + at + 1 = omega arith in
+    record {
+      long = long;
+      front = take_more_same after (drop gone before) at None (omega arith) (omega arith) front last;
+      back =
+          ap (drop (gone + (at + 1))) sets
+          ∙ drop-set-lt (gone + (at + 1)) (set slots at (get_or slots (gone + at) None)) (gone + at) (get_or slots at None) (omega arith)
+          ∙ drop-set-lt (gone + (at + 1)) slots at (get_or slots (gone + at) None) (omega arith)
+          ∙ ap (λ n. drop n slots) one
+          ∙ sym (drop_twice (gone + at) 1 slots)
+          ∙ ap (drop 1) m.back
+          ∙ drop_twice (gone + at) 1 before
+          ∙ ap (λ n. drop n before) (sym one);
+    }
+
+pub moved : {Z : Type 0} {gone at : ℕ} {before slots : List (Slot Z)} → Moves gone at before slots → at ≡ length before - gone → take at slots ≡ drop gone before
+moved {Z} {gone} {at} {before} {slots} m e = m.front ∙ ap (λ n. take n (drop gone before)) e ∙ take_rest before gone
+
+-- ---- once slots are let go
+
+-- the slots, and the numbers of how many are gone and of the first
+pub record Went {Z : Type 0} (first gone went start left : ℕ) (before slots : List (Slot Z)) : Type 0 where
+  pub some : went ≤ gone
+  pub slots_are : slots ≡ drop went before
+  pub start_is : start ≡ first + went
+  pub left_is : left ≡ gone - went
+
+rest_is : {Z : Type 0} {first gone went start left : ℕ} {before slots : List (Slot Z)} → Went first gone went start left before slots → drop left slots ≡ drop gone before
+rest_is {Z} {first} {gone} {went} {start} {left} {before} {slots} w =
+    ap (drop left) w.slots_are ∙ drop_twice went left before ∙ ap (λ n. drop n before) (let s = w.some in let l = w.left_is in let e : went + left ≡ gone = omega arith in e)
+
+same_start : {Z : Type 0} {first gone went start left : ℕ} {before slots : List (Slot Z)} → Went first gone went start left before slots → start + left ≡ first + gone
+same_start w = let some = w.some in let at = w.start_is in let left = w.left_is in omega arith
+
+pub listed_went : {Z : Type 0} {first gone went start left : ℕ} {before slots : List (Slot Z)} → Went first gone went start left before slots → listed (start + left) (drop left slots) ≡ listed (first + gone) (drop gone before)
+listed_went {Z} {first} {gone} {went} {start} {left} {before} {slots} w = ap (λ n. listed n (drop left slots)) (same_start w) ∙ ap (listed (first + gone)) (rest_is w)
+
+pub slots_went : {Z : Type 0} {first gone went start left m : ℕ} {before slots : List (Slot Z)} → Went first gone went start left before slots → AreSlots first gone before m → AreSlots start left slots m
+slots_went {Z} {first} {gone} {went} {start} {left} {m} {before} {slots} w g = record {
+  within = (let some = w.some in let is = w.left_is in let within = g.within in let e = ap length w.slots_are in let d = length-drop went before in omega arith);
+  queued = subst (λ n. AreQueued n (drop left slots) m) (sym (same_start w)) (subst (λ xs. AreQueued (first + gone) xs m) (sym (rest_is w)) g.queued);
+}
 
 -- ---- a slot comes last
 
-pub listed_push : {Z : Type 0} (first : ℕ) (slots : List (Slot Z)) (x : CodeTicket Z) → listed first (slots ++ Some x ∷ []) ≡ listed first slots ++ shown_ticket x ∷ []
+listed_push : {Z : Type 0} (first : ℕ) (slots : List (Slot Z)) (x : CodeTicket Z) → listed first (slots ++ Some x ∷ []) ≡ listed first slots ++ shown_ticket x ∷ []
 unfolding listed
 listed_push first slots x = ap (λ xs. replicate first ended ++ xs) (map-append shown_or_ended slots (Some x ∷ [])) ∙ sym (append_assoc (replicate first ended) (map shown_or_ended slots) (shown_ticket x ∷ []))
 
@@ -63,13 +172,26 @@ unmarked_push L m x u h t l =
     (cases_eq t (length L)))
     (cases_lt t (length L))
 
-pub queued_push : {Z : Type 0} (first m : ℕ) (slots : List (Slot Z)) (x : CodeTicket Z) → AreQueued first slots m → first + length slots + 1 < 2 ^ 64 → (shown_ticket x).stray ≡ false → AreQueued first (slots ++ Some x ∷ []) m
-queued_push first m slots x g l h = record {
-  some = g.some;
-  fits = (let e = length-append slots (Some x ∷ []) in omega arith);
-  starts = starts_push slots x g.starts;
-  marks = subst (λ xs. AreUnmarked xs m) (sym (listed_push first slots x)) (unmarked_push (listed first slots) m (shown_ticket x) g.marks h);
-}
+pub pushed : {Z : Type 0} {first gone m : ℕ} {slots : List (Slot Z)} {L : List Ticket} (x : CodeTicket Z) → AreSlots first gone slots m → listed (first + gone) (drop gone slots) ≡ L → listed (first + gone) (drop gone (slots ++ Some x ∷ [])) ≡ L ++ shown_ticket x ∷ []
+pushed {Z} {first} {gone} {m} {slots} x g e =
+    ap (listed (first + gone)) (drop-append-le gone slots (Some x ∷ []) g.within)
+    ∙ listed_push (first + gone) (drop gone slots) x
+    ∙ ap (λ (xs : List Ticket). xs ++ shown_ticket x ∷ []) e
+
+pub slots_push : {Z : Type 0} {first gone m : ℕ} {slots : List (Slot Z)} (x : CodeTicket Z) → AreSlots first gone slots m → first + length slots + 1 < 2 ^ 64 → (shown_ticket x).stray ≡ false → AreSlots first gone (slots ++ Some x ∷ []) m
+slots_push {Z} {first} {gone} {m} {slots} x g l h =
+    let within = g.within in
+    let long = length-append slots (Some x ∷ []) in
+    let d = length-drop gone (slots ++ Some x ∷ []) in
+    record {
+      within = omega arith;
+      queued = record {
+        some = g.queued.some;
+        fits = omega arith;
+        starts = subst StartsOpen (sym (drop-append-le gone slots (Some x ∷ []) g.within)) (starts_push (drop gone slots) x g.queued.starts);
+        marks = subst (λ xs. AreUnmarked xs m) (sym (pushed x g refl)) (unmarked_push (listed (first + gone) (drop gone slots)) m (shown_ticket x) g.queued.marks h);
+      };
+    }
 
 -- ---- the last slots go
 
@@ -88,8 +210,8 @@ take_beyond first k slots =
     ∙ ap (λ xs. replicate first ended ++ xs) (take-map shown_or_ended k slots)
 
 -- k is how many stay, and start the number of the first then
-pub taken : {Z : Type 0} (first next k start : ℕ) (slots : List (Slot Z)) → k ≡ next - first → start ≡ min first next → listed start (take k slots) ≡ take next (listed first slots)
-taken first next k start slots e f =
+take_queue : {Z : Type 0} (first next k start : ℕ) (slots : List (Slot Z)) → k ≡ next - first → start ≡ min first next → listed start (take k slots) ≡ take next (listed first slots)
+take_queue first next k start slots e f =
     ⊎_elim
     (λ l. ap (λ n. listed n (take k slots)) (let s : start ≡ first = omega arith in s) ∙ sym (take_beyond first k slots) ∙ ap (λ n. take n (listed first slots)) (let s : first + k ≡ next = omega arith in s))
     (λ l. ap (λ n. listed n (take k slots)) (let s : start ≡ next = omega arith in s) ∙ ap (λ n. listed next (take n slots)) (let s : k ≡ 0 = omega arith in s) ∙ sym (take_within first next slots l))
@@ -107,12 +229,45 @@ unmarked_take L m n u t l =
     (λ past. ap (λ (y : Ticket). y.stray) (get_or_past (take n L) t ended (let e = length-take n L in omega arith)))
     (cases_lt t n)
 
-pub queued_take : {Z : Type 0} (first next k start m : ℕ) (slots : List (Slot Z)) → AreQueued first slots m → 1 ≤ next → k ≡ next - first → start ≡ min first next → AreQueued start (take k slots) m
+queued_take : {Z : Type 0} (first next k start m : ℕ) (slots : List (Slot Z)) → AreQueued first slots m → 1 ≤ next → k ≡ next - first → start ≡ min first next → AreQueued start (take k slots) m
 queued_take first next k start m slots g one e f = record {
   some = (let s = g.some in omega arith);
   fits = (let s = g.fits in let z = length-take k slots in omega arith);
   starts = starts_take slots k g.starts;
-  marks = subst (λ xs. AreUnmarked xs m) (sym (taken first next k start slots e f)) (unmarked_take (listed first slots) m next g.marks);
+  marks = subst (λ xs. AreUnmarked xs m) (sym (take_queue first next k start slots e f)) (unmarked_take (listed first slots) m next g.marks);
+}
+
+-- how many slots stay, the number of the first then, and how many are gone
+pub record Cut (first gone next k start left : ℕ) : Type 0 where
+  pub k_is : k ≡ next - first
+  pub start_is : start ≡ min first next
+  pub left_is : left ≡ min gone k
+
+drop_take : {Z : Type 0} {first gone next k start left : ℕ} (slots : List (Slot Z)) → Cut first gone next k start left → drop left (take k slots) ≡ take (next - (first + gone)) (drop gone slots)
+drop_take {Z} {first} {gone} {next} {k} {start} {left} slots c =
+    let k_is = c.k_is in
+    let left_is = c.left_is in
+    ⊎_elim
+    (λ l. drop_all left (take k slots) (let t = length-take k slots in omega arith) ∙ ap (λ n. take n (drop gone slots)) (let e : 0 ≡ next - (first + gone) = omega arith in e))
+    (λ l.
+    ap (λ n. drop left (take n slots)) (let e : k ≡ gone + (next - (first + gone)) = omega arith in e)
+    ∙ ap (λ n. drop n (take (gone + (next - (first + gone))) slots)) (let e : left ≡ gone = omega arith in e)
+    ∙ drop-take gone (next - (first + gone)) slots)
+    (cases_lt k gone)
+
+cut_start : {first gone next k start left : ℕ} → Cut first gone next k start left → start + left ≡ min (first + gone) next
+cut_start c = let k_is = c.k_is in let start_is = c.start_is in let left_is = c.left_is in omega arith
+
+pub taken : {Z : Type 0} {first gone next k start left : ℕ} {L : List Ticket} (slots : List (Slot Z)) → Cut first gone next k start left → listed (first + gone) (drop gone slots) ≡ L → listed (start + left) (drop left (take k slots)) ≡ take next L
+taken {Z} {first} {gone} {next} {k} {start} {left} slots c e =
+    ap (listed (start + left)) (drop_take slots c)
+    ∙ take_queue (first + gone) next (next - (first + gone)) (start + left) (drop gone slots) refl (cut_start c)
+    ∙ ap (take next) e
+
+pub slots_take : {Z : Type 0} {first gone next k start left m : ℕ} {slots : List (Slot Z)} → Cut first gone next k start left → AreSlots first gone slots m → 1 ≤ next → AreSlots start left (take k slots) m
+slots_take {Z} {first} {gone} {next} {k} {start} {left} {m} {slots} c g one = record {
+  within = (let within = g.within in let t = length-take k slots in let left_is = c.left_is in omega arith);
+  queued = subst (λ xs. AreQueued (start + left) xs m) (sym (drop_take slots c)) (queued_take (first + gone) next (next - (first + gone)) (start + left) m (drop gone slots) g.queued one refl (cut_start c));
 }
 
 -- ---- no ticket is given
@@ -121,9 +276,9 @@ pub listed_none : (Z : Type 0) → listed {Z = Z} 1 [] ≡ ended ∷ []
 unfolding listed
 listed_none Z = refl
 
-pub queued_none : {Z : Type 0} (m : ℕ) → AreQueued {Z = Z} 1 [] m
+pub slots_none : {Z : Type 0} (m : ℕ) → AreSlots {Z = Z} 1 0 [] m
 unfolding listed
-queued_none m = record { some = omega arith; fits = omega arith; starts = tt; marks = none }
+slots_none m = record { within = omega arith; queued = record { some = omega arith; fits = omega arith; starts = tt; marks = none } }
   where
     none : (t : ℕ) → t < m → (ticket_at (ended ∷ []) t).stray ≡ false
     none zero l = refl
@@ -161,31 +316,37 @@ below_first p first slots L fails e t l = ap (λ xs. p (ticket_at xs t)) (sym e)
 pub least : (p : Ticket → Bool) (L : List Ticket) (n u : ℕ) → NonePassBelow p L n → p (ticket_at L u) ≡ true → n ≤ u
 least p L n u h passes = ⊎_elim (λ l. absurd (false≢true (sym (h u l) ∙ passes))) (λ le. le) (cases_lt u n)
 
-pub none_left : {Z : Type 0} (p : Ticket → Bool) (first n : ℕ) (slots : List (Slot Z)) (L : List Ticket) → p ended ≡ false → listed first slots ≡ L → NonePassBelow p L n → first + length slots ≤ n → (u : ℕ) → p (ticket_at L u) ≡ true → ⊥
-none_left p first n slots L fails e h past u passes =
-    false≢true (sym (ap (λ xs. p (ticket_at xs u)) (sym e) ∙ ap p (read_past first slots u (let l = least p L n u h passes in omega arith)) ∙ fails) ∙ passes)
+pub none_left : {Z : Type 0} {first gone m : ℕ} {slots : List (Slot Z)} {L : List Ticket} (p : Ticket → Bool) (n : ℕ) → p ended ≡ false → AreSlots first gone slots m → listed (first + gone) (drop gone slots) ≡ L → NonePassBelow p L n → first + length slots ≤ n → (u : ℕ) → p (ticket_at L u) ≡ true → ⊥
+none_left {Z} {first} {gone} {m} {slots} {L} p n fails g e h past u passes =
+    let long = length_shown g e in
+    false≢true (sym (ap p (get_or_past L u ended (let l = least p L n u h passes in omega arith)) ∙ fails) ∙ passes)
 
 -- what it has at a place
-pub at_place : {Z : Type 0} (first k : ℕ) (slots : List (Slot Z)) (L : List Ticket) (slot : Slot Z) → listed first slots ≡ L → k < length slots → slot ≡ get_or slots k slot → ticket_at L (first + k) ≡ shown_or_ended slot
-at_place first k slots L slot e l is = ap (λ xs. ticket_at xs (first + k)) (sym e) ∙ read_at first slots k slot l is
+pub at_place : {Z : Type 0} {first gone m : ℕ} {slots : List (Slot Z)} {L : List Ticket} {slot : Slot Z} (k : ℕ) → AreSlots first gone slots m → listed (first + gone) (drop gone slots) ≡ L → gone ≤ k → k < length slots → slot ≡ get_or slots k slot → ticket_at L (first + k) ≡ shown_or_ended slot
+at_place {Z} {first} {gone} {m} {slots} {L} {slot} k g e behind l is =
+    let stands : Stands first gone slots (first + k) k = record { at = refl; behind = behind; within = l } in
+    here stands e is
 
 -- a step over a slot whose ticket fails
-pub next_place : {Z : Type 0} (p : Ticket → Bool) (first k : ℕ) (slots : List (Slot Z)) (L : List Ticket) (slot : Slot Z) → listed first slots ≡ L → k < length slots → slot ≡ get_or slots k slot → NonePassBelow p L (first + k) → p (shown_or_ended slot) ≡ false → NonePassBelow p L (first + (k + 1))
-next_place p first k slots L slot e l is h fails = subst (NonePassBelow p L) (let z : first + k + 1 ≡ first + (k + 1) = omega arith in z) (below_more (λ t. p (ticket_at L t) ≡ false) (first + k) h (ap p (at_place first k slots L slot e l is) ∙ fails))
+pub next_place : {Z : Type 0} {first gone m : ℕ} {slots : List (Slot Z)} {L : List Ticket} {slot : Slot Z} (p : Ticket → Bool) (k : ℕ) → AreSlots first gone slots m → listed (first + gone) (drop gone slots) ≡ L → gone ≤ k → k < length slots → slot ≡ get_or slots k slot → NonePassBelow p L (first + k) → p (shown_or_ended slot) ≡ false → NonePassBelow p L (first + (k + 1))
+next_place {Z} {first} {gone} {m} {slots} {L} {slot} p k g e behind l is h fails = subst (NonePassBelow p L) (let z : first + k + 1 ≡ first + (k + 1) = omega arith in z) (below_more (λ t. p (ticket_at L t) ≡ false) (first + k) h (ap p (at_place k g e behind l is) ∙ fails))
 
 -- ---- marks
 
 -- where the walk begins
-pub below_start : {Z : Type 0} (first m start : ℕ) (slots : List (Slot Z)) (L : List Ticket) → listed first slots ≡ L → AreUnmarked (listed first slots) m → start ≡ m - first → NonePassBelow (λ (x : Ticket). x.stray) L (first + start)
-below_start first m start slots L e u is t l =
+pub below_start : {Z : Type 0} {first gone m : ℕ} {slots : List (Slot Z)} {L : List Ticket} (start : ℕ) → AreSlots first gone slots m → listed (first + gone) (drop gone slots) ≡ L → start ≡ max (m - first) gone → NonePassBelow (λ (x : Ticket). x.stray) L (first + start)
+below_start {Z} {first} {gone} {m} {slots} {L} start g e is t l =
     ⊎_elim
-    (λ before. below_first (λ (x : Ticket). x.stray) first slots L refl e t before)
-    (λ after. ap (λ xs. (ticket_at xs t).stray) (sym e) ∙ u t (omega arith))
-    (cases_lt t first)
+    (λ before. below_first (λ (x : Ticket). x.stray) (first + gone) (drop gone slots) L refl e t before)
+    (λ after. ap (λ xs. (ticket_at xs t).stray) (sym e) ∙ g.queued.marks t (omega arith))
+    (cases_lt t (first + gone))
 
 -- what the walk has found: marks from a number on
-pub queued_least : {Z : Type 0} {first m : ℕ} {slots : List (Slot Z)} {L : List Ticket} (n : ℕ) → AreQueued first slots m → listed first slots ≡ L → ((u : ℕ) → IsStray L u → n ≤ u) → AreQueued first slots n
-queued_least {Z} {first} {m} {slots} {L} n g e h = record { some = g.some; fits = g.fits; starts = g.starts; marks = subst (λ xs. AreUnmarked xs n) (sym e) (λ t l. false_from_ne_true (ticket_at L t).stray (λ e. (let le : n ≤ t = h t e in omega arith))) }
+pub slots_least : {Z : Type 0} {first gone m : ℕ} {slots : List (Slot Z)} {L : List Ticket} (n : ℕ) → AreSlots first gone slots m → listed (first + gone) (drop gone slots) ≡ L → ((u : ℕ) → IsStray L u → n ≤ u) → AreSlots first gone slots n
+slots_least {Z} {first} {gone} {m} {slots} {L} n g e h = record {
+  within = g.within;
+  queued = record { some = g.queued.some; fits = g.queued.fits; starts = g.queued.starts; marks = subst (λ xs. AreUnmarked xs n) (sym e) (λ t l. false_from_ne_true (ticket_at L t).stray (λ e. (let le : n ≤ t = h t e in omega arith))) };
+}
 
 -- ---- a ticket that no other seat holds
 

@@ -1,5 +1,5 @@
 -- The queue of tickets, and the list of all tickets.
-use Rattle.std.specs.Prelude.{◌≡◌, ℕ, ◌+◌, ◌-◌, ◌^◌, ◌<◌, ◌≤◌, false, List, [], ◌∷◌, ◌++◌, length, map, replicate, Option, Some, None, IsSome, slice_index_or}
+use Rattle.std.specs.Prelude.{◌≡◌, ℕ, ◌+◌, ◌-◌, ◌^◌, ◌<◌, ◌≤◌, false, List, [], ◌∷◌, ◌++◌, length, map, drop, replicate, Option, Some, None, IsSome, slice_index_or}
 use Rattle.chr_calls.specs.Tickets.{Ticket, ended, ticket_at}
 use Rattle.chr_tickets.specs.declared.ticket.Ticket.{Ticket as CodeTicket}
 use Rattle.chr_tickets.specs.Open.{shown_ticket}
@@ -33,8 +33,15 @@ pub record AreQueued {Z : Type 0} (first : ℕ) (slots : List (Slot Z)) (unmarke
   pub starts : StartsOpen slots
   pub marks : AreUnmarked (listed first slots) unmarked
 
--- an open ticket, by its number, in a queue from its first number
-pub record IsOpenAt {Z : Type 0} (first : ℕ) (slots : List (Slot Z)) (t : ℕ) : Type 0 where
+-- Slots from a first number: the tickets of the first `gone` have ended, whatever these slots hold,
+-- and the others are a queue.
+pub record AreSlots {Z : Type 0} (first gone : ℕ) (slots : List (Slot Z)) (unmarked : ℕ) :
+    Type 0 where
+  pub within : gone ≤ length slots
+  pub queued : AreQueued (first + gone) (drop gone slots) unmarked
+
+-- the slot of a number has a ticket, among slots from a first number
+pub record HasTicket {Z : Type 0} (first : ℕ) (slots : List (Slot Z)) (t : ℕ) : Type 0 where
   pub given : first ≤ t
   pub within : t - first < length slots
   pub some : IsSome (slice_index_or slots (t - first) None)

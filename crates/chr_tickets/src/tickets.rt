@@ -9,7 +9,7 @@ ghost use Rattle.chr_tickets.specs.Made.{atom_under};
 ghost use Rattle.chr_tickets.specs.Passed.{advanced, IsCutAt, IsSearchFor, PassesOlder};
 ghost use Rattle.chr_tickets.specs.Stray.{IsFirstStray, NoneStray};
 
-use crate::slots::{Slots, open_at, place_of, pop_ended};
+use crate::slots::{Slots, make_room, next_open, open_at, open_last, place_of};
 use crate::ticket::Ticket;
 use chr_calls::TicketState;
 use chr_guard::Binding;
@@ -19,35 +19,39 @@ use chr_search::{Instance, Judged, Passed, Search, Trial};
 use chr_store::{Label, Store};
 use chr_value::Atom;
 use std::alloc::{AllocError, Allocator};
-use std::collections::VecDeque;
 use std::marker::Model;
 
 /// Tickets, numbered from 1. Contracts see the list of them, ended ones too, from place 1 on.
 ///
-/// Tickets end nearly in the order in which they were given, so a queue from the first open one stays short.
+/// Tickets end nearly in the order in which they were given, so few slots come from the first open one on. Those before it
+/// are let go together where there is no room and they are at least 32 and at least half of all. So there are never more
+/// slots than twice as many as came from the first open one on at some time, or 32 more.
 #[derive(Drop)]
 pub struct Tickets<A: Allocator> {
-    /// The first slot, if any, has an open ticket.
+    /// The slots up to that of the last ticket.
     slots: Slots<A>,
     /// The number of the first slot, or of the next ticket where there is no slot.
     first: u64,
+    /// How many slots come before that of the first open ticket, or how many there are where none is open. Their tickets
+    /// have ended, whatever the slots hold.
+    gone: usize,
     /// No ticket below this number is marked: a walk for the least mark begins here.
     unmarked: u64,
 }
 
 impl<A: Allocator> Model for Tickets<A> {
-    ghost use Rattle.std.specs.Prelude.{List};
+    ghost use Rattle.std.specs.Prelude.{List, drop, ◌+◌};
     ghost use Rattle.chr_rule.specs.Codes.{rule_codes};
     ghost use Rattle.chr_calls.specs.Tickets.{Ticket};
-    ghost use Rattle.chr_tickets.specs.Listed.{listed, AreQueued};
+    ghost use Rattle.chr_tickets.specs.Listed.{listed, AreSlots};
 
     ghost Value = { List Ticket };
 
     ghost coded = { Prim.hlevel rule_codes };
 
-    ghost view = { λ s. listed s.first s.slots.items };
+    ghost view = { λ s. listed (s.first + s.gone) (drop s.gone s.slots.items) };
 
-    ghost invariant = { λ s. AreQueued s.first s.slots.items s.unmarked };
+    ghost invariant = { λ s. AreSlots s.first s.gone s.slots.items s.unmarked };
 }
 
 impl<A: Allocator + Copy> Tickets<A> {
@@ -56,8 +60,9 @@ impl<A: Allocator + Copy> Tickets<A> {
         ensures { result ≡ ended ∷ [] }
     {
         Tickets {
-            slots: VecDeque::new(alloc),
+            slots: Vec::new(alloc),
             first: 1,
+            gone: 0,
             unmarked: u64::MAX,
         }
     }
@@ -80,7 +85,11 @@ impl<A: Allocator + Copy> Tickets<A> {
         ensures ticket { MatchOption result (ticket_at self.now ticket ≡ ended) (λ x. shown_ticket x.now ≡ ticket_at self.now ticket) }
         ensures given { IsSome result → 1 ≤ ticket }
     {
-        match self.slots.get(place_of(self.first, ticket))? {
+        let at = place_of(self.first, ticket);
+        if at < self.gone {
+            return None;
+        }
+        match self.slots.get(at)? {
             Some(found) => Some(found),
             None => None,
         }
@@ -101,7 +110,7 @@ impl<A: Allocator + Copy> Tickets<A> {
     pub fn is_quiet(&self) -> bool
         ensures { IsTrue result ↔ AreQuiet self.now }
     {
-        self.slots.is_empty()
+        self.gone == self.slots.len()
     }
 
     /// The atom of a ticket that waits.
@@ -119,7 +128,7 @@ impl<A: Allocator + Copy> Tickets<A> {
         ensures tickets { MatchBool result (self.new ≡ slice_set self.old ticket (with_atom other.old (ticket_at self.old ticket))) (self.new ≡ self.old) }
     {
         let at = place_of(self.first, ticket);
-        if at >= self.slots.len() {
+        if at >= self.slots.len() || at < self.gone {
             return false;
         }
         let Some(found) = &mut self.slots[at] else {
@@ -159,8 +168,12 @@ impl<A: Allocator + Copy> Tickets<A> {
         if self.next() == u64::MAX {
             return Err(AllocError);
         }
-        self.slots.reserve(1)?;
-        self.slots.push_back_reserved(Some(Ticket::waiting(atom)));
+        if self.slots.len() == self.slots.capacity() {
+            let went = make_room(&mut self.slots, self.gone)?;
+            self.first += went as u64;
+            self.gone -= went;
+        }
+        self.slots.push_reserved(Some(Ticket::waiting(atom)));
         Ok(())
     }
 
@@ -180,7 +193,7 @@ impl<A: Allocator + Copy> Tickets<A> {
         let ticket = self.next();
         // The atom is made in its place, which spares copies.
         self.push(Atom::new(alloc, pattern.name))?;
-        let found = open_at(&mut self.slots, self.first, ticket);
+        let found = open_last(&mut self.slots);
         match found.add_arguments(alloc, pattern, binding) {
             Ok(true) => Ok(()),
             Ok(false) => {
@@ -201,6 +214,7 @@ impl<A: Allocator + Copy> Tickets<A> {
     {
         let kept = next.saturating_sub(self.first) as usize;
         self.slots.truncate(kept);
+        self.gone = self.gone.min(kept);
         self.first = self.first.min(next);
     }
 
@@ -288,16 +302,15 @@ impl<A: Allocator + Copy> Tickets<A> {
         ensures { self.new ≡ slice_set self.old ticket ended }
     {
         let at = place_of(self.first, ticket);
-        if at >= self.slots.len() {
+        if at >= self.slots.len() || at < self.gone {
             return;
         }
-        if at > 0 {
-            // The first ticket is still open, and no slot goes before its own.
+        if at > self.gone {
             self.slots[at] = None;
             return;
         }
-        self.slots.pop_front();
-        self.first = pop_ended(&mut self.slots, self.first + 1);
+        // What the slot holds stays until the slot is let go.
+        self.gone = next_open(&self.slots, at + 1);
     }
 
     /// Marks a ticket that waits or rests.
@@ -316,7 +329,7 @@ impl<A: Allocator + Copy> Tickets<A> {
     {
         let first = self.first;
         let slots = &self.slots;
-        let start = self.unmarked.saturating_sub(first) as usize;
+        let start = (self.unmarked.saturating_sub(first) as usize).max(self.gone);
         for at in start..slots.len() {
             if let Some(found) = &slots[at] {
                 if found.stray {
@@ -347,7 +360,7 @@ impl<A: Allocator + Copy> Tickets<A> {
     {
         let first = self.first;
         let slots = &self.slots;
-        for at in 0..slots.len() {
+        for at in self.gone..slots.len() {
             if let Some(found) = &slots[at] {
                 if found.is_free_for(seat) {
                     return Some(first + at as u64);

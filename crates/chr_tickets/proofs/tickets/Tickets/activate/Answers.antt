@@ -4,10 +4,10 @@ use Rattle.chr_tickets.proofs.Changes.{open_at, changed, still_queued, waiting_o
 use Rattle.chr_tickets.proofs.tickets.Tickets.activate.Goals as goal
 
 pub open_at-found-requires : goal.open_at-found-requires
-open_at-found-requires g c = open_at c.self.view_is (waiting_open c.args.self.now c.args.ticket c.requires)
+open_at-found-requires g c = open_at c.self.invariant c.self.view_is (waiting_open c.args.self.now c.args.ticket c.requires)
 
 pub invariant_of-self : goal.invariant_of-self
-invariant_of-self g c = still_queued _ _ _ _ (λ (_ : Ticket). activated_by c.args.seat c.args.label) _ c.self.invariant c.self.view_is (waiting_open c.args.self.now c.args.ticket c.requires) c.open_at-found.ensures.value (λ there. c.activate.ensures) (omega arith) (λ l. refl)
+invariant_of-self g c = still_queued _ _ (λ (_ : Ticket). activated_by c.args.seat c.args.label) _ c.self.invariant c.self.view_is (waiting_open c.args.self.now c.args.ticket c.requires) c.open_at-found.ensures.value (λ there. c.activate.ensures) (omega arith) (λ l. refl)
 
 pub returns : goal.returns
-returns g c = changed _ _ _ (λ (_ : Ticket). activated_by c.args.seat c.args.label) _ c.self.view_is (waiting_open c.args.self.now c.args.ticket c.requires) c.open_at-found.ensures.value (λ there. c.activate.ensures)
+returns g c = changed _ (λ (_ : Ticket). activated_by c.args.seat c.args.label) _ c.self.invariant c.self.view_is (waiting_open c.args.self.now c.args.ticket c.requires) c.open_at-found.ensures.value (λ there. c.activate.ensures)

@@ -4,10 +4,10 @@ use Rattle.chr_tickets.proofs.Changes.{open_at, changed, still_queued, resting_o
 use Rattle.chr_tickets.proofs.tickets.Tickets.hold.Goals as goal
 
 pub open_at-found-requires : goal.open_at-found-requires
-open_at-found-requires g c = open_at c.self.view_is (resting_open c.args.self.now c.args.ticket c.requires)
+open_at-found-requires g c = open_at c.self.invariant c.self.view_is (resting_open c.args.self.now c.args.ticket c.requires)
 
 pub invariant_of-self : goal.invariant_of-self
-invariant_of-self g c = still_queued _ _ _ _ (held_by c.args.seat) _ c.self.invariant c.self.view_is (resting_open c.args.self.now c.args.ticket c.requires) c.open_at-found.ensures.value (λ there. c.hold.ensures (resting_active c.args.self.now c.args.ticket _ there c.requires)) (omega arith) (λ l. refl)
+invariant_of-self g c = still_queued _ _ (held_by c.args.seat) _ c.self.invariant c.self.view_is (resting_open c.args.self.now c.args.ticket c.requires) c.open_at-found.ensures.value (λ there. c.hold.ensures (resting_active c.args.self.now c.args.ticket _ there c.requires)) (omega arith) (λ l. refl)
 
 pub returns : goal.returns
-returns g c = changed _ _ _ (held_by c.args.seat) _ c.self.view_is (resting_open c.args.self.now c.args.ticket c.requires) c.open_at-found.ensures.value (λ there. c.hold.ensures (resting_active c.args.self.now c.args.ticket _ there c.requires))
+returns g c = changed _ (held_by c.args.seat) _ c.self.invariant c.self.view_is (resting_open c.args.self.now c.args.ticket c.requires) c.open_at-found.ensures.value (λ there. c.hold.ensures (resting_active c.args.self.now c.args.ticket _ there c.requires))

@@ -4,10 +4,10 @@ use Rattle.chr_tickets.proofs.Changes.{open_at, changed, still_queued, claimable
 use Rattle.chr_tickets.proofs.tickets.Tickets.mark.Goals as goal
 
 pub open_at-found-requires : goal.open_at-found-requires
-open_at-found-requires g c = open_at c.self.view_is (claimable_open c.args.self.now c.args.ticket c.requires)
+open_at-found-requires g c = open_at c.self.invariant c.self.view_is (claimable_open c.args.self.now c.args.ticket c.requires)
 
 pub invariant_of-self : goal.invariant_of-self
-invariant_of-self g c = still_queued _ _ _ _ (marked true) _ c.self.invariant c.self.view_is (claimable_open c.args.self.now c.args.ticket c.requires) c.open_at-found.ensures.value (λ there. shown_marked c.open_at-found.result.now.goal true c.open_at-found.result.now.stray) (omega arith) (λ l. absurd (omega arith))
+invariant_of-self g c = still_queued _ _ (marked true) _ c.self.invariant c.self.view_is (claimable_open c.args.self.now c.args.ticket c.requires) c.open_at-found.ensures.value (λ there. shown_marked c.open_at-found.result.now.goal true c.open_at-found.result.now.stray) (omega arith) (λ l. absurd (omega arith))
 
 pub returns : goal.returns
-returns g c = changed _ _ _ (marked true) _ c.self.view_is (claimable_open c.args.self.now c.args.ticket c.requires) c.open_at-found.ensures.value (λ there. shown_marked c.open_at-found.result.now.goal true c.open_at-found.result.now.stray)
+returns g c = changed _ (marked true) _ c.self.invariant c.self.view_is (claimable_open c.args.self.now c.args.ticket c.requires) c.open_at-found.ensures.value (λ there. shown_marked c.open_at-found.result.now.goal true c.open_at-found.result.now.stray)
