@@ -1,15 +1,16 @@
 -- What is asked of a store for the next partner, and what its answer says.
 use Rattle.chr_search.specs.Passing.{IsNarrowedIf}
-use Rattle.std.proofs.Common.{◌≡◌, ◌≢◌, ◌↔◌, ℕ, zero, suc, ◌+◌, ◌-◌, ◌<◌, ◌≤◌, Bool, true, false, IsTrue, ltb, ◌&&◌, ◌||◌, ◌==◌, take, drop, List, [], ◌∷◌, ◌++◌, length, replicate, Option, Some, None, slice_get, refl, sym, ◌∙◌, ap, ap₂, subst, arith, length-append}
+use Rattle.std.proofs.Common.{◌≡◌, ◌≢◌, ◌↔◌, ℕ, zero, suc, ◌+◌, ◌-◌, ◌<◌, ◌≤◌, Bool, true, false, IsTrue, ltb, ◌&&◌, ◌||◌, ◌==◌, take, drop, List, [], ◌∷◌, ◌++◌, length, replicate, Option, Some, None, IsSome, slice_get, refl, sym, ◌∙◌, ap, ap₂, subst, arith, length-append}
 use Rattle.std.specs.List.{list_any}
 use Rattle.std.specs.Option.{option_map}
 use Rattle.std.proofs.lemmas.Bool.Decides.{nat_tests}
-use Rattle.std.proofs.lemmas.Option.{slice_get_within, slice_get_past, slice_get-map}
+use Rattle.std.proofs.lemmas.Option.{slice_get_within, slice_get_past, slice_get-map, get_or_from_slice_get}
 use Rattle.chr_value.specs.Atoms.{Value, Atom}
 use Rattle.chr_value.specs.declared.atom.Pred.{Pred}
 use Rattle.chr_value.proofs.Chosen.{some_is}
 use Rattle.chr_rule.specs.Parts.{argument, shape}
 use Rattle.chr_rule.specs.Rules.{RuleAtom, head_at}
+use Rattle.chr_rule.proofs.Index.{head_there}
 use Rattle.chr_rule.specs.declared.rule_atom.RuleAtom.{RuleAtom as CodeRuleAtom}
 use Rattle.chr_rule.specs.declared.term.Term.{Term as CodeTerm}
 use Rattle.chr_guard.specs.Values.{Valuation}
@@ -24,11 +25,12 @@ use Rattle.chr_search.specs.Tree.{Grows}
 use Rattle.chr_search.specs.Trials.{Join, StandsAt, HasHeadPred, MayFollow, IsInTurn}
 use Rattle.chr_search.specs.declared.join.Asked.{Asked}
 use Rattle.chr_search.specs.Partners.{HasPlan, IsReady, key_value, keyed_at, KeyIs, key_in, IsAskedFor, IsPartnerFrom}
-use Rattle.chr_search.proofs.Plans.{order_of_plan, step_keyed}
+use Rattle.chr_search.proofs.Plans.{IsWithin, order_of_plan, step_keyed}
 use Rattle.chr_search.proofs.Following.{follows_live, follows_at}
 use Rattle.chr_search.proofs.Partners.{IsAsked, fit_last, ready_more, no_fit, older_than_first}
 use Rattle.chr_search.proofs.Making.{label_bounds}
 use Rattle.std.proofs.lemmas.List.{length-replicate, take_at}
+use Rattle.std.proofs.lemmas.List.Elements.{All-from_recursion}
 
 pub any_among : (ls : List ℕ) (l : ℕ) → list_any (λ y. y == l) ls ≡ among ls l
 any_among [] l = refl
@@ -69,6 +71,13 @@ pub room : (j : Join) → HasPlan j → (labels : List ℕ) (x : ℕ) → MayFol
 room j p labels x m =
     let count = (order_of_plan (heads_of j.rule) p.head j.order p.from p.to p.plan).count in
     omega (arith, slice_get_within j.order (length labels) m.step m.step_is, count, p.scoped.limits.heads, length-append j.rule.kept j.rule.removed)
+
+-- each step of a plan names one of the rule's heads
+pub step_head : (j : Join) → HasPlan j → (i : ℕ) (step : Step) → slice_get j.order i ≡ Some step → IsSome (head_at j.rule step.head)
+step_head j p i step at =
+    let all = (order_of_plan (heads_of j.rule) p.head j.order p.from p.to p.plan).within in
+    let within : IsWithin (length (heads_of j.rule)) step = subst (IsWithin (length (heads_of j.rule))) (get_or_from_slice_get j.order i step step at) (All-from_recursion (IsWithin (length (heads_of j.rule))) j.order all i step (slice_get_within j.order i step at)) in
+    head_there j.rule step.head (omega (arith, within.0)) (omega (arith, within.1, length-append j.rule.kept j.rule.removed))
 
 -- the next head, and what it has at the key's place
 pub record IsKeyed (j : Join) (labels : List ℕ) (binding : List (Option (Value ℕ))) (step : Step) (head : RuleAtom ℕ) (place : ℕ) : Type 0 where

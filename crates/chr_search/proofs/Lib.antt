@@ -24,6 +24,7 @@ pub mod Fronts
 pub mod Below
 pub mod PlanByPlan
 pub mod AtHeads
+pub mod Ending
 pub mod Occurring
 pub mod Fitting
 pub mod Alone

@@ -1,5 +1,5 @@
 -- Trials where a program has heads of the active atom's predicate.
-use Rattle.std.proofs.Common.{◌≡◌, ℕ, ◌+◌, ◌-◌, ◌*◌, ◌<◌, Fits, w8, true, List, [], ◌∷◌, length, Option, Some, None, MatchOption, slice_get, sym, ◌∙◌, ap, subst, arith}
+use Rattle.std.proofs.Common.{◌≡◌, ℕ, ◌+◌, ◌-◌, ◌*◌, ◌<◌, Fits, w8, true, List, [], ◌∷◌, length, Some, slice_get, sym, ◌∙◌, ap, subst, arith}
 use Rattle.std.proofs.lemmas.Bool.Decides.{nat_tests}
 use Rattle.chr_value.specs.declared.atom.Pred.{Pred}
 use Rattle.chr_value.proofs.Chosen.{some_is}
@@ -11,7 +11,7 @@ use Rattle.chr_plan.specs.Plans.{plan_at, ArePlans}
 use Rattle.chr_plan.specs.declared.order.Step.{Step}
 use Rattle.chr_search.specs.Positions.{at_or_after}
 use Rattle.chr_search.specs.Trials.{HasHeadPred, Join, Space, IsTrial, NoneLeft}
-use Rattle.chr_search.specs.PlanByPlan.{IsActive, IsJoinOf, IsUnplanned, IsJoinAt, HasComeTo, IsNextJoin}
+use Rattle.chr_search.specs.PlanByPlan.{IsActive, IsJoinOf, IsJoinAt, HasComeTo, IsNextJoin}
 use Rattle.chr_search.proofs.Plans.{planned, has_plan}
 use Rattle.chr_search.proofs.Descents.{each_trial, none_left, rule_low}
 use Rattle.chr_search.proofs.PlanByPlan.{HasJoin, head_bounds, joins_at, head_at_most}
@@ -66,15 +66,9 @@ join_there s p a ps r h j o k =
     let pred : HasHeadPred o.at.head a.atom = (sym a.name ∙ sym o.at.pred.name, sym a.arity ∙ sym o.at.pred.arity) in
     joins_at s r h j o.at.head a.atom ps k (subst (λ (x : Simpagation ℕ). head_at x h ≡ Some o.at.head) same o.at.head_is) a.live pred
 
--- the answer where there is one
-pub join_at_occurrence : {J : Type 0} (s : Space) (p : Pred) → IsActive s p → ArePlans s.rules s.plans → (r h x y : ℕ) → IsNextOccurrence s.rules p r h (x, y) → (as_join : J → Join) (found : Option J) → MatchOption found (IsUnplanned s x y) (λ j. IsJoinOf s x y (as_join j)) → MatchOption found (NoneLeft s (r ∷ h ∷ [])) (λ j. IsNextJoin s r h x y (as_join j))
-join_at_occurrence s p a ps r h x y o as_join None none =
-    let there = plan_there s p ps x y o.occurs in
-    absurd (none o.occurs.rule there.0 (record { rule_is = o.occurs.rule_is; order_is = there.1 }))
-join_at_occurrence s p a ps r h x y o as_join (Some j) k = record {
-  come = come_to_occurrence s p a ps r h x y o;
-  join = join_there s p a ps x y (as_join j) o.occurs k;
-}
+-- the join of the next one
+pub join_at_occurrence : (s : Space) (p : Pred) → IsActive s p → ArePlans s.rules s.plans → (r h x y : ℕ) → IsNextOccurrence s.rules p r h (x, y) → (j : Join) → IsJoinOf s x y j → IsNextJoin s r h x y j
+join_at_occurrence s p a ps r h x y o j k = record { come = come_to_occurrence s p a ps r h x y o; join = join_there s p a ps x y j o.occurs k }
 
 -- a walk through the plans that goes on from one: the next head's number fits, and it is nearer to the end
 pub head_fits : (s : Space) (place : List ℕ) (r h : ℕ) (j : Join) → HasJoin s place r h j → Fits w8 (h + 1)

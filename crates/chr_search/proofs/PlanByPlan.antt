@@ -19,7 +19,7 @@ use Rattle.chr_search.specs.Verdicts.{Placed, Trial, label_at, labels_from, kept
 use Rattle.chr_search.specs.Partners.{HasPlan}
 use Rattle.chr_search.specs.Answers.{after_verdict}
 use Rattle.chr_search.specs.Passing.{IsTrialIn, HasTrials, AreWhole, PassesOneIn, PassesIn, PassesOne, Passes, IsWholeNext}
-use Rattle.chr_search.specs.PlanByPlan.{label_at_head, labels_at_heads, labels_in, IsJoinOf, IsJoinAt, HasComeTo}
+use Rattle.chr_search.specs.PlanByPlan.{label_at_head, labels_at_heads, labels_in, IsJoinOf, IsJoinAt, HasComeTo, IsWholeAt}
 use Rattle.chr_search.proofs.Positions.{after_itself, after_by}
 use Rattle.chr_search.proofs.Plans.{heads_in, planned}
 use Rattle.chr_search.proofs.Tree.{least_deep}
@@ -58,10 +58,10 @@ alike_next s p q t a l =
     (is_first s p t).1 (record { trial = f.trial; there = (a t f.trial).1 f.there; first = λ u i h. f.first u i ((a u i).0 h) })
 
 -- where a search has come
-come_to_own : (s : Space) (r h : ℕ) (ls : List ℕ) → HasComeTo s (r ∷ h ∷ ls) r h
+pub come_to_own : (s : Space) (r h : ℕ) (ls : List ℕ) → HasComeTo s (r ∷ h ∷ ls) r h
 come_to_own s r h ls = record { later = after_itself (r ∷ h ∷ []); none = λ t i e. after_by (r ∷ h ∷ []) (r ∷ h ∷ ls) t (grind (arith, nat_tests)) e }
 
-alike_in : (s : Space) (place : List ℕ) (r h : ℕ) → HasComeTo s place r h → AreAlike s place (r ∷ h ∷ labels_in place r h)
+pub alike_in : (s : Space) (place : List ℕ) (r h : ℕ) → HasComeTo s place r h → AreAlike s place (r ∷ h ∷ labels_in place r h)
 alike_in s [] r h c = λ t i. (c.none t i, λ e. refl)
 alike_in s (x ∷ []) r h c = λ t i. (c.none t i, after_by (x ∷ []) (r ∷ h ∷ []) t c.later)
 alike_in s (x ∷ y ∷ ls) r h c = each_trial s (λ t. (at_or_after (x ∷ y ∷ ls) t ≡ true) ↔ (at_or_after (r ∷ h ∷ labels_in (x ∷ y ∷ ls) r h) t ≡ true)) (λ b k l more i first.
@@ -180,25 +180,24 @@ kept_head s r h rule order m (l ∷ ls) some g away =
     ]
 
 -- the trial that is whole
-pub whole_at : (s : Space) (r h : ℕ) (j : Join) → IsJoinAt s r h j → Makes s j.rule j.order r h → (place : List ℕ) (n : ℕ) (labels ls : List ℕ) (binding : List (Option (Value ℕ))) → (gone : HasGone s place r h n labels) → Least (MayFollow j) 1 [] labels ls → AreWhole j ls binding → (w : CodeWhole) → w.number ≡ r
-    → w.kept.items ≡ labels_at_heads j.order ls 1 (length j.rule.kept) → w.removed.items ≡ labels_at_heads j.order ls (suc (length j.rule.kept)) (length j.rule.removed) → w.past.label ≡ j.active → (h ≤ length j.rule.kept → w.past.place ≡ past (r ∷ h ∷ ls)) → IsWholeNext s gone.after w binding
-whole_at s r h j k m place n labels ls binding gone l whole w number_is kept_is removed_is label_is past_is =
+pub whole_at : (s : Space) (r h : ℕ) (j : Join) → IsJoinAt s r h j → Makes s j.rule j.order r h → (place : List ℕ) (n : ℕ) (labels ls : List ℕ) (binding : List (Option (Value ℕ))) → (gone : HasGone s place r h n labels) → Least (MayFollow j) 1 [] labels ls → AreWhole j ls binding → (w : CodeWhole) → IsWholeAt j r h ls w → IsWholeNext s gone.after w binding
+whole_at s r h j k m place n labels ls binding gone l whole w at =
     let g = subst (λ (x : Join). (1 ≤ length ls) × Grows (MayFollow x) [] ls) k.is (grown j labels ls l) in
     let t = made_of s j.rule j.order r h m ls g.0 g.1 in
     let is : position t.trial ≡ r ∷ h ∷ ls = position_made s j.rule j.order r h ls t in
     let labels_are = at_heads (join_in s j.rule j.order) ls t.trial t.is in
-    let active : w.past.label ≡ s.active = label_is ∙ ap (λ (x : Join). x.active) k.is in
+    let active : w.past.label ≡ s.active = at.label_is ∙ ap (λ (x : Join). x.active) k.is in
     record {
       trial = t.trial;
       next = subst (IsNext s gone.after) (sym is) (next_in_plan s gone.after r h labels j gone.alike m.planned k.is ls l);
       is = trial_of_made s j.rule j.order r h ls t m.planned.rule_is m.planned.order_is;
       formed = t.is.formed;
       under = subst (λ (x : Join). AreWhole x ls binding) k.is whole t.trial t.is;
-      number_is = number_is ∙ sym t.number;
-      kept_are = kept_is ∙ labels_are.0;
-      removed_are = removed_is ∙ labels_are.1;
+      number_is = at.number_is ∙ sym t.number;
+      kept_are = at.kept_are ∙ labels_are.0;
+      removed_are = at.removed_are ∙ labels_are.1;
       label_is = active;
-      past_is = λ away. past_is (kept_head s r h j.rule j.order m ls g.0 g.1 (ap₂ among (sym removed_is) (sym active) ∙ away)) ∙ ap past (sym is);
+      past_is = λ away. at.past_is (kept_head s r h j.rule j.order m ls g.0 g.1 (ap₂ among (sym at.removed_are) (sym active) ∙ away)) ∙ ap past (sym is);
     }
 
 -- the join of a plan, and what comes of passing over its trials
@@ -270,7 +269,7 @@ pub reached_first : (s : Space) (place : List ℕ) (r h : ℕ) → HasComeTo s p
 reached_first s place r h c = record { at = place; passed = refl; come = c; same = λ x y k. refl }
 
 -- at a later head a place stands nowhere
-none_ahead : (place : List ℕ) (r h x y : ℕ) → at_or_after (take 2 place) (r ∷ h ∷ []) ≡ true → at_or_after (r ∷ (h + 1) ∷ []) (x ∷ y ∷ []) ≡ true → labels_in place x y ≡ []
+pub none_ahead : (place : List ℕ) (r h x y : ℕ) → at_or_after (take 2 place) (r ∷ h ∷ []) ≡ true → at_or_after (r ∷ (h + 1) ∷ []) (x ∷ y ∷ []) ≡ true → labels_in place x y ≡ []
 none_ahead [] r h x y l k = refl
 none_ahead (a ∷ []) r h x y l k = refl
 none_ahead (a ∷ b ∷ ls) r h x y l k = grind (arith, nat_tests)

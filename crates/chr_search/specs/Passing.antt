@@ -237,3 +237,11 @@ pub record PassesTo (s : Space) (passed : CodePassed) (i : Instance)
   pub passes : Passes s passed.count place after
   pub next : IsThen s after passed.then i binding
   pub stands : here ≡ left_at passed.then place after
+
+-- The same, by a search that stood elsewhere and stays there but where perhaps more come.
+pub record PassesFrom (s : Space) (place : List ℕ) (passed : CodePassed) (i : Instance)
+    (binding : List (Option (Value ℕ))) (stood here : List ℕ) : Type 0 where
+  pub after : List ℕ
+  pub passes : Passes s passed.count place after
+  pub next : IsThen s after passed.then i binding
+  pub stands : here ≡ left_at passed.then stood after

@@ -111,10 +111,11 @@ impl<'s, A: Allocator + Copy> Join<'s, A> {
     /// Where a label stands that comes after these. None where no label may be tried after these.
     #[inline(always)]
     pub(crate) fn last_head(&self, labels: &[Label]) -> Option<LastHead<'s, A>>
+        requires plan { HasPlan (join_of self.now) }
         ensures { MatchOption result ((x : ℕ) → MayFollow (join_of self.now) labels.now x → ⊥) (IsLastHead (join_of self.now) labels.now) }
     {
         let step = self.order.get(labels.len())?;
-        let head = self.rule.head(usize::from(step.head))?;
+        let head = self.rule.head_at(usize::from(step.head));
         Some(LastHead {
             head,
             step: *step,

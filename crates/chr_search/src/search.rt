@@ -5,6 +5,7 @@ ghost use Rattle.chr_model.specs.Stores.{Store as Entries};
 ghost use Rattle.chr_plan.specs.Plans.{ArePlans};
 ghost use Rattle.chr_store.specs.Labels.{entered};
 ghost use Rattle.chr_search.specs.declared.judged.Verdict.TheVariants as verdicts;
+ghost use Rattle.chr_search.specs.declared.passing.End.TheVariants as ends;
 ghost use Rattle.chr_search.specs.declared.search.Then.TheVariants as thens;
 ghost use Rattle.chr_search.specs.Positions.{at_or_after, begins, beginning, past, front};
 ghost use Rattle.chr_search.specs.Trials.{Space, join_in, older, IsTrial, IsNext, NoneLeft};
@@ -12,8 +13,8 @@ ghost use Rattle.chr_search.specs.Answers.{IsAnswer, IsAnswerBehind, IsToldNext,
 ghost use Rattle.chr_search.specs.Verdicts.{Trial as TrialView, IsPart, position as position_of};
 ghost use Rattle.chr_search.specs.Fronts.{ComeAfter};
 ghost use Rattle.chr_search.specs.Joined.{join_of};
-ghost use Rattle.chr_search.specs.Passing.{IsTrialIn, BeginsTrials, IsCounted, PassesPlan, PassesTo};
-ghost use Rattle.chr_search.specs.PlanByPlan.{labels_at_heads, AreAhead, IsUnplanned, IsJoinOf, labels_in, HasComeTo, IsNextJoin};
+ghost use Rattle.chr_search.specs.Passing.{IsTrialIn, BeginsTrials, IsCounted, PassesPlan, PassesTo, PassesFrom};
+ghost use Rattle.chr_search.specs.PlanByPlan.{labels_at_heads, AreAhead, IsUnplanned, IsJoinOf, labels_in, HasComeTo, IsNextJoin, IsWholeAt, IsThenAfter};
 
 use crate::join::Join;
 use crate::judged::{Judged, Verdict};
@@ -133,11 +134,7 @@ impl Instance {
         requires head { 1 ≤ walk.now.head }
         requires trial { (t : TrialView) × IsTrialIn (join_of join.now) self.old.labels.items t }
         requires full { length self.old.labels.items ≡ length join.now.rule.now.kept + length join.now.rule.now.removed }
-        ensures number { self.new.whole.number ≡ walk.now.rule }
-        ensures kept { self.new.whole.kept.items ≡ labels_at_heads join.now.order.now self.old.labels.items 1 (length join.now.rule.now.kept) }
-        ensures removed { self.new.whole.removed.items ≡ labels_at_heads join.now.order.now self.old.labels.items (suc (length join.now.rule.now.kept)) (length join.now.rule.now.removed) }
-        ensures label { self.new.whole.past.label ≡ join.now.view.active }
-        ensures past { walk.now.head ≤ length join.now.rule.now.kept → self.new.whole.past.place ≡ past (walk.now.rule ∷ walk.now.head ∷ self.old.labels.items) }
+        ensures { IsWholeAt (join_of join.now) walk.now.rule walk.now.head self.old.labels.items self.new.whole }
     {
         let labels = self.labels.as_slice();
         let whole = &mut self.whole;
@@ -176,6 +173,21 @@ struct Walk<'s> {
     heads: HeadsFrom<'s>,
     rule: u16,
     head: u8,
+}
+
+impl<'s> Walk<'s> {
+    /// The walk from the first rule and head on, through the heads of an atom's predicate.
+    #[inline(always)]
+    fn first<A: Allocator + Copy>(program: &'s Program<A>, atom: &Atom<A>) -> Walk<'s>
+        ensures begins { result.rule ∷ result.head ∷ [] ≡ beginning }
+        ensures ahead { (s : Space) → s.rules ≡ program.now → atom_at s.store s.active ≡ Some atom.now → AreAhead s result.rule result.head result.heads }
+    {
+        Walk {
+            rule: 1,
+            head: 1,
+            heads: program.heads_from(atom.pred(), 1, 1),
+        }
+    }
 }
 
 /// An active label, and how far its trials are ruled out.
@@ -295,16 +307,18 @@ impl Search {
         plans: &'s Plans<A>,
         walk: &mut Walk<'s>,
     ) -> Option<(&'s Rule<A>, &'s [Step])>
-        requires { ArePlans program.now plans.now }
+        requires plans { ArePlans program.now plans.now }
+        requires ahead { (store : Entries) × (active : ℕ) × AreAhead (older program.now plans.now store active) walk.old.rule walk.old.head walk.old.heads }
         ensures next { (store : Entries) (active : ℕ) → let s = older program.now plans.now store active in AreAhead s walk.old.rule walk.old.head walk.old.heads → MatchOption result (NoneLeft s (walk.old.rule ∷ walk.old.head ∷ [])) (λ p. IsNextJoin s walk.old.rule walk.old.head walk.new.rule walk.new.head (join_in s p.0.now p.1.now)) }
         ensures ahead { (store : Entries) (active : ℕ) → let s = older program.now plans.now store active in AreAhead s walk.old.rule walk.old.head walk.old.heads → IfSome result (λ _. AreAhead s walk.new.rule (walk.new.head + 1) walk.new.heads) }
     {
-        let Some(found) = walk.heads.next() else {
+        let Some((rule, head)) = walk.heads.next() else {
             return None;
         };
-        walk.rule = found.0;
-        walk.head = found.1;
-        Search::plan_at(program, plans, found.0, found.1)
+        walk.rule = rule;
+        walk.head = head;
+        let found = &program.rules()[usize::from(rule) - 1];
+        Some((found, plans.plan_at(rule, head)))
     }
 
     /// The labels from which the trials of the plan are looked for at which a walk stands: those of the position, where
@@ -600,8 +614,82 @@ impl Search {
         }
     }
 
-    /// Passes over the trials of the plan at which a walk stands, at or after the position, at most so many.
+    /// What comes once trials of the plan at which a walk stands were passed over. None where no trial of it is left.
     #[inline(always)]
+    fn then_after<A: Allocator + Copy>(
+        &mut self,
+        join: &Join<'_, A>,
+        walk: &Walk<'_>,
+        end: End,
+        instance: &mut Instance,
+    ) -> Option<Then>
+        requires rule { 1 ≤ walk.now.rule }
+        requires head { 1 ≤ walk.now.head }
+        requires whole { end ≡ ends.Whole → (t : TrialView) × IsTrialIn (join_of join.now) instance.old.labels.items t × (length instance.old.labels.items ≡ length join.now.rule.now.kept + length join.now.rule.now.removed) }
+        ensures label { self.new.label ≡ self.old.label }
+        ensures then { IsThenAfter (join_of join.now) walk.now.rule walk.now.head instance.old.labels.items end result instance.new.whole self.old.place self.new.place }
+    {
+        match end {
+            End::NoneLeft => None,
+            End::Enough => {
+                self.position
+                    .become_at(walk.rule, walk.head, &instance.labels);
+                Some(Then::More)
+            }
+            End::Whole => {
+                instance.set_whole(join, walk);
+                Some(Then::Whole)
+            }
+        }
+    }
+
+    /// Passes over the trials of the plans from where a walk stands on, of each from its first one on, at most so many.
+    #[inline(always)]
+    fn pass_plans<'s, A: Allocator + Copy>(
+        &mut self,
+        program: &'s Program<A>,
+        plans: &'s Plans<A>,
+        view: &View<'s, A>,
+        walk: &mut Walk<'s>,
+        most: u64,
+        instance: &mut Instance,
+        bound: &mut Binding<'s, A>,
+    ) -> Passed
+        requires some { 1 ≤ most }
+        requires plans { ArePlans program.now plans.now }
+        requires active { view.now.active ≡ self.old.label }
+        requires ahead { AreAhead (older program.now plans.now view.now.store.entries self.old.label) walk.old.rule walk.old.head walk.old.heads }
+        ensures few { result.count ≤ most }
+        ensures more { result.then ≡ thens.More → result.count ≡ most }
+        ensures label { self.new.label ≡ self.old.label }
+        ensures passed { PassesFrom (older program.now plans.now view.now.store.entries self.old.label) (walk.old.rule ∷ walk.old.head ∷ []) result instance.new bound.new self.old.place self.new.place }
+    {
+        // For the proof: the labels of a store are at most the greatest.
+        let _given = view.active();
+        let mut count = 0;
+        let Some((rule, order)) = Search::next_plan(program, plans, walk) else {
+            let then = Then::Done;
+            return Passed { count, then };
+        };
+        let view = view.copy();
+        let mut join = Join { rule, order, view };
+        loop {
+            let passed = join.pass_first(most - count, instance, bound);
+            count += passed.count;
+            if let Some(then) = self.then_after(&join, walk, passed.end, instance) {
+                return Passed { count, then };
+            }
+            walk.head += 1;
+            let Some((rule, order)) = Search::next_plan(program, plans, walk) else {
+                let then = Then::Done;
+                return Passed { count, then };
+            };
+            join.rule = rule;
+            join.order = order;
+        }
+    }
+
+    /// Passes over the trials of the plan at which a walk stands, at or after the position, at most so many.
     fn pass_in_plan<'s, A: Allocator + Copy>(
         &self,
         join: &Join<'s, A>,
@@ -623,7 +711,6 @@ impl Search {
     }
 
     /// Passes over trials as [`pass_over`](Search::pass_over) does, in a view for its label, which has this atom.
-    #[inline(always)]
     fn pass_in<'s, A: Allocator + Copy>(
         &mut self,
         program: &'s Program<A>,
@@ -634,6 +721,7 @@ impl Search {
         instance: &mut Instance,
         bound: &mut Binding<'s, A>,
     ) -> Passed
+        requires some { 1 ≤ most }
         requires plans { ArePlans program.now plans.now }
         requires active { view.now.active ≡ self.old.label }
         requires atom { atom_at view.now.store.entries self.old.label ≡ Some atom.now }
@@ -642,43 +730,38 @@ impl Search {
         ensures label { self.new.label ≡ self.old.label }
         ensures passed { PassesTo (older program.now plans.now view.now.store.entries self.old.label) result instance.new bound.new self.old.place self.new.place }
     {
-        let mut count = 0;
-        if most == 0 {
-            let then = Then::More;
-            return Passed { count, then };
-        }
         // For the proof: the labels of a store are at most the greatest.
         let _given = view.active();
         let mut walk = self.first_walk(program, atom);
         let Some((rule, order)) = Search::next_plan(program, plans, &mut walk) else {
-            let then = Then::Done;
-            return Passed { count, then };
-        };
-        let view = view.copy();
-        let mut join = Join { rule, order, view };
-        loop {
-            let passed = self.pass_in_plan(&join, &walk, most - count, instance, bound);
-            count += passed.count;
-            match passed.end {
-                End::NoneLeft => walk.head += 1,
-                End::Enough => {
-                    self.position
-                        .become_at(walk.rule, walk.head, &instance.labels);
-                    let then = Then::More;
-                    return Passed { count, then };
-                }
-                End::Whole => {
-                    instance.set_whole(&join, &walk);
-                    let then = Then::Whole;
-                    return Passed { count, then };
-                }
-            }
-            let Some((rule, order)) = Search::next_plan(program, plans, &mut walk) else {
-                let then = Then::Done;
-                return Passed { count, then };
+            return Passed {
+                count: 0,
+                then: Then::Done,
             };
-            join.rule = rule;
-            join.order = order;
+        };
+        let join = Join {
+            rule,
+            order,
+            view: view.copy(),
+        };
+        let first = self.pass_in_plan(&join, &walk, most, instance, bound);
+        let count = first.count;
+        if let Some(then) = self.then_after(&join, &walk, first.end, instance) {
+            return Passed { count, then };
+        }
+        walk.head += 1;
+        let rest = self.pass_plans(
+            program,
+            plans,
+            view,
+            &mut walk,
+            most - count,
+            instance,
+            bound,
+        );
+        Passed {
+            count: count + rest.count,
+            then: rest.then,
         }
     }
 
@@ -707,12 +790,19 @@ impl Search {
                 then: Then::Done,
             };
         };
+        if most == 0 {
+            return Passed {
+                count: 0,
+                then: Then::More,
+            };
+        }
         let view = View::of(store, self.label);
         self.pass_in(program, plans, &view, atom, most, instance, bound)
     }
 
-    /// Passes over trials as [`pass_over`](Search::pass_over) does, in the store as it is once this atom is entered. That is
-    /// done before the atom is, since a firing that removes it needs no entering.
+    /// Passes over trials as [`pass_over`](Search::pass_over) does, from the first one on, in the store as it is once this atom
+    /// is entered. That is done before the atom is, since a firing that removes it needs no entering. The search is at its
+    /// beginning.
     pub fn pass_over_before<'s, A: Allocator + Copy>(
         &mut self,
         program: &'s Program<A>,
@@ -726,6 +816,7 @@ impl Search {
         requires plans { ArePlans program.now plans.now }
         requires label { self.old.label ≡ store.now.next }
         requires room { store.now.next ≤ store.now.limit }
+        requires place { self.old.place ≡ beginning }
         ensures few { result.count ≤ most }
         ensures more { result.then ≡ thens.More → result.count ≡ most }
         ensures label { self.new.label ≡ self.old.label }
@@ -733,7 +824,14 @@ impl Search {
     {
         // For the proof: the labels of a store are below its next one.
         let _next = store.next_label();
+        if most == 0 {
+            return Passed {
+                count: 0,
+                then: Then::More,
+            };
+        }
         let view = View::with(store, atom);
-        self.pass_in(program, plans, &view, atom, most, instance, bound)
+        let mut walk = Walk::first(program, atom);
+        self.pass_plans(program, plans, &view, &mut walk, most, instance, bound)
     }
 }

@@ -1,155 +1,100 @@
-use Rattle.std.proofs.Common.{◌≡◌, ◌+◌, ◌-◌, ℕ, List, [], ◌∷◌, refl, sym, ap, subst, ◌∙◌, arith}
+use Rattle.std.proofs.Common.{◌≡◌, ◌+◌, ℕ, List, [], ◌∷◌, refl, sym, subst, ◌∙◌, arith}
 use Rattle.chr_search.specs.declared.passing.End.{End}
-use Rattle.chr_search.specs.declared.passing.End.TheVariants.{Whole, NoneLeft}
-use Rattle.chr_search.specs.Reach.{SearchState}
-use Rattle.chr_search.specs.Trials.{older, join_in}
-use Rattle.chr_search.specs.Joined.{join_of}
-use Rattle.chr_search.specs.Passing.{IsTrialIn, AreWhole, PassesIn, EndsIn}
-use Rattle.chr_search.specs.Verdicts.{Trial}
-use Rattle.chr_search.specs.PlanByPlan.{IsJoinAt, IsNextJoin, labels_in}
+use Rattle.chr_search.specs.declared.passing.End.TheVariants as ends
+use Rattle.chr_search.specs.Trials.{Join, older, join_in}
+use Rattle.chr_search.specs.Passing.{PassesIn, EndsIn, PassesFrom}
+use Rattle.chr_search.specs.PlanByPlan.{AreAhead, HasComeTo, IsJoinAt, IsNextJoin, labels_in}
 use Rattle.chr_search.proofs.Positions.{after_itself}
-use Rattle.chr_search.proofs.PassingOver.{pass_more}
-use Rattle.chr_search.proofs.PlanByPlan.{HasGone, HasJoin, HasReached, joined, grown, come_to_end, has_join, trials_at, gone_at, gone_some, whole_at, reached_first, reached_on, reached_past}
-use Rattle.chr_search.proofs.AtHeads.{whole_count}
-use Rattle.chr_search.proofs.Occurring.{head_fits, nearer}
-use Rattle.chr_search.proofs.search.Search.pass_in.Goals.{In-Whole, In-Some-next_plan, After-pass_in_plan-passed}
+use Rattle.chr_search.proofs.PlanByPlan.{HasJoin, HasReached, joined, come_on, come_to_end, has_join, trials_at, gone_at, none_ahead, reached_first, reached_past}
+use Rattle.chr_search.proofs.Ending.{whole_full, none_left_after, comes_after_plan, passes_on, passes_to}
+use Rattle.chr_search.proofs.Occurring.{head_fits}
+use Rattle.chr_search.proofs.search.Search.pass_in.Goals.{After-first_walk-walk, After-copy, After-pass_in_plan-first, In_default-then_after}
 use Rattle.chr_search.proofs.search.Search.pass_in.Goals as goal
 
--- the join at which the search stands
-here : (g : _) (c : After-pass_in_plan-passed g) → HasJoin (older c.args.program.now c.args.plans.now c.args.view.now.store.entries c.args.self.now.label) c.loop-walk.invariant.reached.at c.loop-walk.walk.rule c.loop-walk.walk.head (join_of c.loop-walk.join)
-here g c =
-    let i = c.loop-walk.invariant in
-    has_join _ _ _ _ _ i.reached.come i.join c.requires.plans c.args.view.now.store refl c.active-given.ensures.labelled
+-- the walk goes through the heads of the active atom's predicate
+ahead : (g : _) (c : After-first_walk-walk g) → AreAhead (older c.args.program.now c.args.plans.now c.args.view.now.store.entries c.args.self.now.label) c.first_walk-walk.result.rule c.first_walk-walk.result.head c.first_walk-walk.result.heads
+ahead g c = c.first_walk-walk.ensures.ahead (older c.args.program.now c.args.plans.now c.args.view.now.store.entries c.args.self.now.label) refl c.requires.atom
 
--- its trials that are passed over
-passes : (g : _) (c : After-pass_in_plan-passed g) → PassesIn (join_of c.loop-walk.join) c.pass_in_plan-passed.result.count (labels_in c.loop-walk.invariant.reached.at c.loop-walk.walk.rule c.loop-walk.walk.head) c.pass_in_plan-passed.ensures.passes.after
-passes g c =
-    let i = c.loop-walk.invariant in
-    let walk = c.loop-walk.walk in
-    let p = c.pass_in_plan-passed.ensures.passes in
-    let from = ap (λ (s : SearchState). labels_in s.place walk.rule walk.head) i.stays ∙ i.reached.same walk.rule walk.head (after_itself (walk.rule ∷ walk.head ∷ [])) in
-    subst (λ ls. PassesIn (join_of c.loop-walk.join) c.pass_in_plan-passed.result.count ls p.after) from p.passes
-
-gone : (g : _) (c : After-pass_in_plan-passed g) → HasJoin (older c.args.program.now c.args.plans.now c.args.view.now.store.entries c.args.self.now.label) c.loop-walk.invariant.reached.at c.loop-walk.walk.rule c.loop-walk.walk.head (join_of c.loop-walk.join)
-    → HasGone (older c.args.program.now c.args.plans.now c.args.view.now.store.entries c.args.self.now.label) c.loop-walk.invariant.reached.at c.loop-walk.walk.rule c.loop-walk.walk.head c.pass_in_plan-passed.result.count c.pass_in_plan-passed.ensures.passes.after
-gone g c h = gone_at _ _ _ _ h.join h.makes _ _ _ h.come (passes g c)
-
--- how that ends
-ends : (g : _) (c : After-pass_in_plan-passed g) (end : End) → c.pass_in_plan-passed.result.end ≡ end → EndsIn (join_of c.loop-walk.join) c.pass_in_plan-passed.ensures.passes.after end c.pass_in_plan-passed.new.instance.labels.items c.pass_in_plan-passed.new.bound
-ends g c end is = subst (λ (e : End). EndsIn (join_of c.loop-walk.join) c.pass_in_plan-passed.ensures.passes.after e c.pass_in_plan-passed.new.instance.labels.items c.pass_in_plan-passed.new.bound) is c.pass_in_plan-passed.ensures.passes.ends
-
-pub pass_in_plan-passed-requires : goal.pass_in_plan-passed-requires
-pass_in_plan-passed-requires g c =
-    let i = c.loop-walk.invariant in
-    let h = has_join _ _ _ _ (join_of c.loop-walk.join) i.reached.come i.join c.requires.plans c.args.view.now.store refl c.active-given.ensures.labelled in
-    (omega arith, (omega (arith, i.less), record { begins = h.join.begins; plan = h.join.plan; trials = trials_at _ _ _ _ h.join h.makes }))
-
-pub overflow_add-walk : goal.overflow_add-walk
-overflow_add-walk g c = head_fits _ _ _ _ _ (here g (goal.at.overflow_add-walk g c).After-pass_in_plan-passed)
-
--- where none of them is left the search goes on at the next head, and to the next plan
-on : (g : _) (c : After-pass_in_plan-passed g) → c.pass_in_plan-passed.result.end ≡ NoneLeft → HasJoin (older c.args.program.now c.args.plans.now c.args.view.now.store.entries c.args.self.now.label) c.loop-walk.invariant.reached.at c.loop-walk.walk.rule c.loop-walk.walk.head (join_of c.loop-walk.join)
-    → HasReached (older c.args.program.now c.args.plans.now c.args.view.now.store.entries c.args.self.now.label) c.args.self.now.place (c.loop-walk.count + c.pass_in_plan-passed.result.count) c.loop-walk.walk.rule (c.loop-walk.walk.head + 1)
-on g c is h = reached_past _ _ _ _ _ _ _ _ c.loop-walk.invariant.reached h (gone g c h) (ends g c NoneLeft is)
-
-next : (g : _) (c : In-Some-next_plan g) → IsNextJoin (older c.args.program.now c.args.plans.now c.args.view.now.store.entries c.args.self.now.label) c.loop-walk.walk.rule (c.loop-walk.walk.head + 1) c.next_plan-in-loop-walk.new.walk.rule c.next_plan-in-loop-walk.new.walk.head (join_in (older c.args.program.now c.args.plans.now c.args.view.now.store.entries c.args.self.now.label) c.in-Some-next_plan.rule.now c.in-Some-next_plan.order.now)
-next g c = c.in-Some-next_plan.ensures.next _ _ c.loop-walk.invariant.ahead
-
-pub loop-walk-smaller : goal.loop-walk-smaller
-loop-walk-smaller g c =
-    let at = goal.at.loop-walk-smaller g c in
-    let n = next g at.In-Some-next_plan in
-    let k = reached_on _ _ _ _ _ _ _ (on g at.After-pass_in_plan-passed c.in-NoneLeft.is (here g at.After-pass_in_plan-passed)) n.come in
-    nearer _ _ _ _ _ _ _ n.come.later (has_join _ _ _ _ _ k.come n.join c.requires.plans c.args.view.now.store refl c.active-given.ensures.labelled)
-
-pub loop-walk-preserved : goal.loop-walk-preserved
-loop-walk-preserved g c =
-    let at = goal.at.loop-walk-preserved g c in
-    let i = c.loop-walk.invariant in
-    let n = next g at.In-Some-next_plan in
-    record {
-      less = omega (arith, i.less, c.pass_in_plan-passed.ensures.counted.less c.in-NoneLeft.is);
-      stays = i.stays;
-      view = i.view;
-      join = subst (IsJoinAt _ _ _) (sym (joined c.args.program.now c.args.plans.now c.loop-walk.join.view c.args.view.now c.args.self.now.label c.in-Some-next_plan.rule.now c.in-Some-next_plan.order.now i.view c.requires.active)) n.join;
-      reached = reached_on _ _ _ _ _ _ _ (on g at.After-pass_in_plan-passed c.in-NoneLeft.is (here g at.After-pass_in_plan-passed)) n.come;
-      ahead = c.in-Some-next_plan.ensures.ahead _ _ i.ahead;
-    }
-
-pub returns-in_default-next_plan-clause-passed : goal.returns-in_default-next_plan-clause-passed
-returns-in_default-next_plan-clause-passed g c =
-    let at = goal.at.returns-in_default-next_plan-clause-passed g c in
-    let i = c.loop-walk.invariant in
-    let k = on g at.After-pass_in_plan-passed c.in-NoneLeft.is (here g at.After-pass_in_plan-passed) in
-    record { after = k.at; passes = k.passed; next = come_to_end _ _ _ _ k.come (c.in_default-next_plan.ensures.next _ _ i.ahead); stands = ap (λ (s : SearchState). s.place) i.stays }
-
--- as many as were asked for: the search stands after the last one
-pub become_at-requires : goal.become_at-requires
-become_at-requires g c = let makes = (here g (goal.at.become_at-requires g c).After-pass_in_plan-passed).makes in record { rule = makes.number; head = makes.head }
-
-pub returns-in-Enough-clause-passed : goal.returns-in-Enough-clause-passed
-returns-in-Enough-clause-passed g c =
-    let at = goal.at.returns-in-Enough-clause-passed g c in
-    let h = here g at.After-pass_in_plan-passed in
-    let i = c.loop-walk.invariant in
-    let walk = c.loop-walk.walk in
-    let many : c.pass_in_plan-passed.result.count ≡ c.args.most - c.loop-walk.count = c.pass_in_plan-passed.ensures.counted.enough c.in-Enough.is in
-    record {
-      after = walk.rule ∷ walk.head ∷ c.pass_in_plan-passed.ensures.passes.after;
-      passes = pass_more _ _ _ _ i.reached.at _ i.reached.passed (gone_some _ _ _ _ h.join h.makes _ _ _ h.come (passes g at.After-pass_in_plan-passed) (omega (arith, i.less)));
-      next = tt;
-      stands = c.become_at.ensures ∙ ap (λ (ls : List ℕ). walk.rule ∷ walk.head ∷ ls) (ends g at.After-pass_in_plan-passed _ c.in-Enough.is);
-    }
-
--- the labels of the trial that is whole
-whole_in : (g : _) (c : In-Whole g) → HasJoin (older c.args.program.now c.args.plans.now c.args.view.now.store.entries c.args.self.now.label) c.loop-walk.invariant.reached.at c.loop-walk.walk.rule c.loop-walk.walk.head (join_of c.loop-walk.join)
-    → EndsIn (join_of c.loop-walk.join) c.pass_in_plan-passed.ensures.passes.after Whole c.pass_in_plan-passed.new.instance.labels.items c.pass_in_plan-passed.new.bound
-    → (t : Trial) × IsTrialIn (join_of c.loop-walk.join) c.pass_in_plan-passed.new.instance.labels.items t × AreWhole (join_of c.loop-walk.join) c.pass_in_plan-passed.new.instance.labels.items c.pass_in_plan-passed.new.bound
-whole_in g c h e =
-    let ls = c.pass_in_plan-passed.new.instance.labels.items in
-    let g = grown (join_of c.loop-walk.join) c.pass_in_plan-passed.ensures.passes.after ls e.0 in
-    let t = trials_at _ _ _ _ h.join h.makes ls g.0 g.1 in
-    (t.0, t.1, e.1)
-
-pub set_whole-requires : goal.set_whole-requires
-set_whole-requires g c =
-    let at = goal.at.set_whole-requires g c in
-    let h = here g at.After-pass_in_plan-passed in
-    let whole = whole_in g at.In-Whole h (ends g at.After-pass_in_plan-passed Whole c.in-Whole.is) in
-    record { rule = h.makes.number; head = h.makes.head; trial = (whole.0, whole.1); full = whole_count _ _ whole.0 whole.1 _ whole.2 }
-
--- where it comes next, or none is left, the search stands where it stood
-pub returns-in-Whole-clause-passed : goal.returns-in-Whole-clause-passed
-returns-in-Whole-clause-passed g c =
-    let at = goal.at.returns-in-Whole-clause-passed g c in
-    let h = here g at.After-pass_in_plan-passed in
-    let gone = gone g at.After-pass_in_plan-passed h in
-    let i = c.loop-walk.invariant in
-    let e = ends g at.After-pass_in_plan-passed Whole c.in-Whole.is in
-    record {
-      after = gone.after;
-      passes = pass_more _ _ _ _ i.reached.at _ i.reached.passed gone.passed;
-      next = whole_at _ _ _ _ h.join h.makes _ _ _ c.pass_in_plan-passed.new.instance.labels.items _ gone e.0 e.1 c.set_whole.new.self.whole c.set_whole.ensures.number c.set_whole.ensures.kept c.set_whole.ensures.removed c.set_whole.ensures.label c.set_whole.ensures.past;
-      stands = ap (λ (s : SearchState). s.place) i.stays;
-    }
+pub next_plan-requires-clause-ahead : goal.next_plan-requires-clause-ahead
+next_plan-requires-clause-ahead g c = (c.args.view.now.store.entries, c.args.self.now.label, ahead g (goal.at.next_plan-requires-clause-ahead g c).After-first_walk-walk)
 
 pub returns-in_default-clause-passed : goal.returns-in_default-clause-passed
 returns-in_default-clause-passed g c = record {
   after = c.args.self.now.place;
   passes = refl;
-  next = come_to_end _ _ _ _ (c.first_walk-walk.ensures.come _ refl) (c.in_default.ensures.next _ _ (c.first_walk-walk.ensures.ahead _ refl c.requires.atom));
+  next = come_to_end _ _ _ _ (c.first_walk-walk.ensures.come _ refl) (c.in_default.ensures.next _ _ (ahead g (goal.at.returns-in_default-clause-passed g c).After-first_walk-walk));
   stands = refl;
 }
 
-pub loop-walk-init : goal.loop-walk-init
-loop-walk-init g c =
-    let ahead = c.first_walk-walk.ensures.ahead (older c.args.program.now c.args.plans.now c.args.view.now.store.entries c.args.self.now.label) refl c.requires.atom in
-    let n = c.in-Some.ensures.next _ _ ahead in
-    record {
-      less = omega arith;
-      stays = refl;
-      view = c.copy-view.ensures;
-      join = subst (IsJoinAt _ _ _) (sym (joined c.args.program.now c.args.plans.now c.copy-view.result c.args.view.now c.args.self.now.label c.in-Some.rule.now c.in-Some.order.now c.copy-view.ensures c.requires.active)) n.join;
-      reached = reached_on _ _ _ _ _ _ _ (reached_first _ _ _ _ (c.first_walk-walk.ensures.come _ refl)) n.come;
-      ahead = c.in-Some.ensures.ahead _ _ ahead;
-    }
+-- the first plan, and its join in the view
+next : (g : _) (c : After-copy g) → IsNextJoin (older c.args.program.now c.args.plans.now c.args.view.now.store.entries c.args.self.now.label) c.first_walk-walk.result.rule c.first_walk-walk.result.head c.next_plan.new.walk.rule c.next_plan.new.walk.head (join_in (older c.args.program.now c.args.plans.now c.args.view.now.store.entries c.args.self.now.label) c.in-Some.rule.now c.in-Some.order.now)
+next g c = c.in-Some.ensures.next _ _ (c.first_walk-walk.ensures.ahead (older c.args.program.now c.args.plans.now c.args.view.now.store.entries c.args.self.now.label) refl c.requires.atom)
+
+abbrev join : (g : _) (c : After-copy g) → Join
+join g c = join_in (older c.args.program.now c.args.plans.now c.copy.result.store.entries c.copy.result.active) c.in-Some.rule.now c.in-Some.order.now
+
+come : (g : _) (c : After-copy g) → HasComeTo (older c.args.program.now c.args.plans.now c.args.view.now.store.entries c.args.self.now.label) c.args.self.now.place c.next_plan.new.walk.rule c.next_plan.new.walk.head
+come g c = come_on _ _ _ _ _ _ (c.first_walk-walk.ensures.come _ refl) (next g c).come
+
+reached : (g : _) (c : After-copy g) → HasReached (older c.args.program.now c.args.plans.now c.args.view.now.store.entries c.args.self.now.label) c.args.self.now.place 0 c.next_plan.new.walk.rule c.next_plan.new.walk.head
+reached g c = reached_first _ _ _ _ (come g c)
+
+here : (g : _) (c : After-copy g) → HasJoin (older c.args.program.now c.args.plans.now c.args.view.now.store.entries c.args.self.now.label) (reached g c).at c.next_plan.new.walk.rule c.next_plan.new.walk.head (join g c)
+here g c =
+    has_join _ _ _ _ _ (reached g c).come
+    (subst (IsJoinAt _ _ _) (sym (joined c.args.program.now c.args.plans.now c.copy.result c.args.view.now c.args.self.now.label c.in-Some.rule.now c.in-Some.order.now c.copy.ensures c.requires.active)) (next g c).join)
+    c.requires.plans c.args.view.now.store refl c.active-given.ensures.labelled
+
+-- its trials that are passed over
+passes : (g : _) (c : After-pass_in_plan-first g) → (k : HasReached (older c.args.program.now c.args.plans.now c.args.view.now.store.entries c.args.self.now.label) c.args.self.now.place 0 c.next_plan.new.walk.rule c.next_plan.new.walk.head) → PassesIn (join_in (older c.args.program.now c.args.plans.now c.copy.result.store.entries c.copy.result.active) c.in-Some.rule.now c.in-Some.order.now) c.pass_in_plan-first.result.count (labels_in k.at c.next_plan.new.walk.rule c.next_plan.new.walk.head) c.pass_in_plan-first.ensures.passes.after
+passes g c k = subst (λ ls. PassesIn (join_in (older c.args.program.now c.args.plans.now c.copy.result.store.entries c.copy.result.active) c.in-Some.rule.now c.in-Some.order.now) c.pass_in_plan-first.result.count ls c.pass_in_plan-first.ensures.passes.after) (k.same c.next_plan.new.walk.rule c.next_plan.new.walk.head (after_itself (c.next_plan.new.walk.rule ∷ c.next_plan.new.walk.head ∷ []))) c.pass_in_plan-first.ensures.passes.passes
+
+pub pass_in_plan-first-requires : goal.pass_in_plan-first-requires
+pass_in_plan-first-requires g c =
+    let h = here g (goal.at.pass_in_plan-first-requires g c).After-copy in
+    (omega arith, (c.requires.some, record { begins = h.join.begins; plan = h.join.plan; trials = trials_at _ _ _ _ h.join h.makes }))
+
+pub then_after-requires : goal.then_after-requires
+then_after-requires g c =
+    let h = here g (goal.at.then_after-requires g c).After-copy in
+    record { rule = h.makes.number; head = h.makes.head; whole = whole_full _ _ _ _ _ h _ _ _ _ c.pass_in_plan-first.ensures.passes.ends }
+
+pub returns-in-Some-then_after-clause-passed : goal.returns-in-Some-then_after-clause-passed
+returns-in-Some-then_after-clause-passed g c =
+    let at = goal.at.returns-in-Some-then_after-clause-passed g c in
+    let k = reached g at.After-copy in
+    passes_to _ _ _ _ _ _ (comes_after_plan _ _ _ _ _ _ k (here g at.After-copy) _ _ (passes g at.After-pass_in_plan-first k) _ (λ e. omega (arith, c.requires.some, c.pass_in_plan-first.ensures.counted.enough e)) _ _ c.pass_in_plan-first.ensures.passes.ends _ c.then_after.new.instance _ _ c.then_after.ensures.then _ c.in-Some-then_after.is _ (omega arith))
+
+pub overflow_add-walk : goal.overflow_add-walk
+overflow_add-walk g c = head_fits _ _ _ _ _ (here g (goal.at.overflow_add-walk g c).After-copy)
+
+-- where none of them is left the search stands where it stood, and goes on at the next head
+left : (g : _) (c : In_default-then_after g) → (c.pass_in_plan-first.result.end ≡ ends.NoneLeft) × (c.then_after.new.self.place ≡ c.args.self.now.place)
+left g c = none_left_after _ _ _ _ _ _ c.then_after.new.instance _ _ c.then_after.ensures.then c.in_default-then_after.is
+
+on : (g : _) (c : After-pass_in_plan-first g) → (k : HasReached (older c.args.program.now c.args.plans.now c.args.view.now.store.entries c.args.self.now.label) c.args.self.now.place 0 c.next_plan.new.walk.rule c.next_plan.new.walk.head) → HasJoin (older c.args.program.now c.args.plans.now c.args.view.now.store.entries c.args.self.now.label) k.at c.next_plan.new.walk.rule c.next_plan.new.walk.head (join_in (older c.args.program.now c.args.plans.now c.copy.result.store.entries c.copy.result.active) c.in-Some.rule.now c.in-Some.order.now) → c.pass_in_plan-first.result.end ≡ ends.NoneLeft → HasReached (older c.args.program.now c.args.plans.now c.args.view.now.store.entries c.args.self.now.label) c.args.self.now.place (0 + c.pass_in_plan-first.result.count) c.next_plan.new.walk.rule (c.next_plan.new.walk.head + 1)
+on g c k h is =
+    let none = subst (λ (e : End). EndsIn (join_in (older c.args.program.now c.args.plans.now c.copy.result.store.entries c.copy.result.active) c.in-Some.rule.now c.in-Some.order.now) c.pass_in_plan-first.ensures.passes.after e c.pass_in_plan-first.new.instance.labels.items c.pass_in_plan-first.new.bound) is c.pass_in_plan-first.ensures.passes.ends in
+    reached_past _ _ _ _ _ _ _ _ k h (gone_at _ _ _ _ h.join h.makes _ _ _ h.come (passes g c k)) none
+
+pub pass_plans-rest-requires : goal.pass_plans-rest-requires
+pass_plans-rest-requires g c =
+    let at = goal.at.pass_plans-rest-requires g c in
+    let left = left g at.In_default-then_after in
+    let label = c.then_after.ensures.label in
+    let on = c.in-Some.ensures.ahead _ _ (ahead g at.After-first_walk-walk) in
+    (omega arith, (omega (arith, c.pass_in_plan-first.ensures.counted.less left.0), (c.requires.plans, (c.requires.active ∙ sym label, subst (λ (l : ℕ). AreAhead (older c.args.program.now c.args.plans.now c.args.view.now.store.entries l) c.next_plan.new.walk.rule (c.next_plan.new.walk.head + 1) c.next_plan.new.walk.heads) (sym label) on))))
+
+pub returns-clause-passed : goal.returns-clause-passed
+returns-clause-passed g c =
+    let at = goal.at.returns-clause-passed g c in
+    let left = left g at.In_default-then_after in
+    let start = reached g at.After-copy in
+    let k = on g at.After-pass_in_plan-first start (here g at.After-copy) left.0 in
+    let free = none_ahead c.args.self.now.place c.next_plan.new.walk.rule c.next_plan.new.walk.head c.next_plan.new.walk.rule (c.next_plan.new.walk.head + 1) (come g at.After-copy).later (after_itself (c.next_plan.new.walk.rule ∷ (c.next_plan.new.walk.head + 1) ∷ [])) in
+    let rest = c.pass_plans-rest in
+    let less = c.pass_in_plan-first.ensures.counted.less left.0 in
+    let from =
+    subst (λ (l : ℕ). PassesFrom (older c.args.program.now c.args.plans.now c.args.view.now.store.entries l) (c.next_plan.new.walk.rule ∷ (c.next_plan.new.walk.head + 1) ∷ []) rest.result rest.new.instance rest.new.bound c.args.self.now.place rest.new.self.place) c.then_after.ensures.label
+    (subst (λ (p : List ℕ). PassesFrom (older c.args.program.now c.args.plans.now c.args.view.now.store.entries c.then_after.new.self.label) (c.next_plan.new.walk.rule ∷ (c.next_plan.new.walk.head + 1) ∷ []) rest.result rest.new.instance rest.new.bound p rest.new.self.place) left.1 rest.ensures.passed) in
+    passes_to _ _ _ _ _ _ (passes_on _ _ _ _ _ k free rest.result rest.new.instance rest.new.bound _ _ (λ e. omega (arith, rest.ensures.more e, less)) from _ (omega arith))
