@@ -3,6 +3,7 @@ ghost use Rattle.std.specs.Prelude.{◌≡◌, ◌≤◌, ℕ, IfOk, OnErr};
 ghost use Rattle.chr_model.specs.Goals.{Numbered};
 ghost use Rattle.chr_plan.specs.Plans.{ArePlans};
 ghost use Rattle.chr_store.specs.Labels.{entered};
+ghost use Rattle.chr_search.specs.Positions.{beginning};
 ghost use Rattle.chr_search.specs.Trials.{older};
 ghost use Rattle.chr_search.specs.declared.search.Then.TheVariants as thens;
 ghost use Rattle.chr_calls.specs.Tickets.{ticket_at, IsActive};
@@ -43,8 +44,9 @@ pub fn pass_over<A: Allocator + Copy>(
     Ok(come)
 }
 
-/// Lets a search pass over trials in the store as it is once this atom is entered, at most so many, and gives the body's
-/// atoms of the trial that is then found whole, if any, the next tickets. An `Err` is E01: then these are taken back.
+/// Lets a search that is at its beginning pass over trials in the store as it is once this atom is entered, at most so many,
+/// and gives the body's atoms of the trial that is then found whole, if any, the next tickets. An `Err` is E01: then these are
+/// taken back.
 pub fn pass_over_before<A: Allocator + Copy>(
     tickets: &mut Tickets<A>,
     search: &mut Search,
@@ -58,6 +60,7 @@ pub fn pass_over_before<A: Allocator + Copy>(
     requires plans { ArePlans program.now plans.now }
     requires label { search.old.label ≡ store.now.next }
     requires room { store.now.next ≤ store.now.limit }
+    requires place { search.old.place ≡ beginning }
     ensures few { IfOk result (λ come. come.count ≤ most) }
     ensures more { IfOk result (λ come. come.then ≡ thens.More → come.count ≡ most) }
     ensures label { search.new.label ≡ search.old.label }

@@ -175,7 +175,7 @@ impl<A: Allocator + Copy> Book<A> {
             seat,
             ticket,
             &self.started,
-            search,
+            &search,
             come.then,
             self.instance.whole(),
         ) else {
