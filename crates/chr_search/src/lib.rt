@@ -15,6 +15,7 @@
 //! youngest of its labels.
 #![tactic(auto)]
 
+mod at_heads;
 mod fitted;
 mod front;
 mod join;

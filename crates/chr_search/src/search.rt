@@ -1,5 +1,5 @@
 //! Searches.
-ghost use Rattle.std.specs.Prelude.{◌≡◌, ◌↔◌, ℕ, suc, ◌+◌, ◌-◌, ◌≤◌, true, List, ◌∷◌, ◌++◌, [], length, slice_set, Some, MatchBool, MatchOption, IfOk, IfSome, IsTrue};
+ghost use Rattle.std.specs.Prelude.{◌≡◌, ◌↔◌, ℕ, ◌+◌, ◌-◌, ◌≤◌, true, List, ◌∷◌, ◌++◌, [], length, Some, MatchBool, MatchOption, IfOk, IfSome, IsTrue};
 ghost use Rattle.chr_value.specs.Stores.{atom_at, greatest_label};
 ghost use Rattle.chr_model.specs.Stores.{Store as Entries};
 ghost use Rattle.chr_plan.specs.Plans.{ArePlans};
@@ -14,8 +14,9 @@ ghost use Rattle.chr_search.specs.Verdicts.{Trial as TrialView, IsPart, position
 ghost use Rattle.chr_search.specs.Fronts.{ComeAfter};
 ghost use Rattle.chr_search.specs.Joined.{join_of};
 ghost use Rattle.chr_search.specs.Passing.{IsTrialIn, BeginsTrials, IsCounted, PassesPlan, PassesTo, PassesFrom};
-ghost use Rattle.chr_search.specs.PlanByPlan.{labels_at_heads, AreAhead, IsUnplanned, IsJoinOf, labels_in, HasComeTo, IsNextJoin, IsWholeAt, IsThenAfter};
+ghost use Rattle.chr_search.specs.PlanByPlan.{AreAhead, IsUnplanned, IsJoinOf, labels_in, HasComeTo, IsNextJoin, IsWholeAt, IsThenAfter};
 
+use crate::at_heads::{put_at_heads, resize};
 use crate::join::Join;
 use crate::judged::{Judged, Verdict};
 use crate::passing;
@@ -59,51 +60,6 @@ pub struct Whole {
 pub struct Instance {
     pub(crate) labels: Labels,
     whole: Whole,
-}
-
-/// Makes labels as many as a count. Which they are then is left open.
-fn resize(labels: &mut Labels, count: usize)
-    requires { count ≤ 6 }
-    ensures { length labels.new.items ≡ count }
-{
-    labels.truncate(count);
-    while labels.len() < count {
-        labels.push(0);
-    }
-}
-
-/// Puts a label at a head: its place is among the kept heads, or after them among the removed ones.
-#[inline(always)]
-fn put_at_head(kept: &mut [Label], removed: &mut [Label], head: u8, label: Label)
-    requires from { 1 ≤ head }
-    requires to { head ≤ length kept.old + length removed.old }
-    ensures { kept.new ++ removed.new ≡ slice_set (kept.old ++ removed.old) (head - 1) label }
-{
-    let place = usize::from(head) - 1;
-    if place < kept.len() {
-        kept[place] = label;
-    } else {
-        removed[place - kept.len()] = label;
-    }
-}
-
-/// Puts the labels of a trial, one for each head in the order of the plan, at their heads.
-fn put_at_heads<A: Allocator + Copy>(
-    kept: &mut [Label],
-    removed: &mut [Label],
-    join: &Join<'_, A>,
-    labels: &[Label],
-)
-    requires trial { (t : TrialView) × IsTrialIn (join_of join.now) labels.now t }
-    requires full { length labels.now ≡ length join.now.rule.now.kept + length join.now.rule.now.removed }
-    requires kept { length kept.old ≡ length join.now.rule.now.kept }
-    requires removed { length removed.old ≡ length join.now.rule.now.removed }
-    ensures kept { kept.new ≡ labels_at_heads join.now.order.now labels.now 1 (length join.now.rule.now.kept) }
-    ensures removed { removed.new ≡ labels_at_heads join.now.order.now labels.now (suc (length join.now.rule.now.kept)) (length join.now.rule.now.removed) }
-{
-    for i in 0..labels.len() {
-        put_at_head(kept, removed, join.order[i].head, labels[i]);
-    }
 }
 
 impl Instance {

@@ -1,5 +1,5 @@
 use Rattle.std.proofs.Common.{◌-◌, ◌≤◌, length}
-use Rattle.chr_search.proofs.search.resize.Given as goal
+use Rattle.chr_search.proofs.at_heads.resize.Given as goal
 
 abbrev pub invariant-loop-labels : goal.invariant-loop-labels
 invariant-loop-labels l = length l.labels.items ≤ l.count

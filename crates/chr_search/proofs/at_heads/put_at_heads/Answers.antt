@@ -2,8 +2,8 @@ use Rattle.std.proofs.Common.{◌≡◌, ◌++◌, Some, None, false, get_or, sl
 use Rattle.std.proofs.lemmas.Option.{slice_get-get_or}
 use Rattle.chr_search.specs.Joined.{join_of}
 use Rattle.chr_search.proofs.AtHeads.{IsAtStep, at_step, steps_enough, put_next, all_put}
-use Rattle.chr_search.proofs.search.put_at_heads.Goals.{In-loop-i}
-use Rattle.chr_search.proofs.search.put_at_heads.Goals as goal
+use Rattle.chr_search.proofs.at_heads.put_at_heads.Goals.{In-loop-i}
+use Rattle.chr_search.proofs.at_heads.put_at_heads.Goals as goal
 
 pub bounds-join-i : goal.bounds-join-i
 bounds-join-i g c = omega (arith, steps_enough (join_of c.args.join.now) c.args.labels.now c.requires.trial.0 c.requires.trial.1)
