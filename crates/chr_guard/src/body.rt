@@ -4,6 +4,7 @@ ghost use Rattle.std.specs.Option.{option_map};
 ghost use Rattle.chr_value.specs.Atoms.{Atom, args_of, ground, grounds};
 ghost use Rattle.chr_rule.specs.Parts.{argument, member, shape};
 ghost use Rattle.chr_rule.specs.Rules.{terms_of, Expression, Is};
+ghost use Rattle.chr_rule.specs.Terms.{HasPlainArguments};
 ghost use Rattle.chr_guard.specs.Values.{term_under, terms_under, value_under};
 ghost use Rattle.chr_guard.specs.Bindings.{Keeps, PartsBound, bound_at};
 ghost use Rattle.chr_guard.specs.Instances.{made_under, AreMadeUnder, added};
@@ -137,11 +138,16 @@ fn are_parts_bound<A: Allocator + Copy>(item: &BodyItem<A>, binding: &Binding<'_
 }
 
 /// Binds the variable left of an `is` to the expression's value. False where it has none or the variable is bound to another,
-/// and where an argument of a constraint has none.
+/// and where an argument of a constraint has none. Where all are known to be variables, numbers and symbols, each has one.
 #[inline(always)]
-fn bind_item<A: Allocator + Copy>(item: &BodyItem<A>, binding: &mut Binding<'_, A>) -> bool
+fn bind_item<A: Allocator + Copy>(
+    item: &BodyItem<A>,
+    binding: &mut Binding<'_, A>,
+    is_plain: bool,
+) -> bool
     requires place { (x : ℕ) (e : Expression) → member item.now ≡ Is x e → x < length binding.old }
     requires ready { PartsBound binding.old (member item.now) }
+    requires plain { is_plain ≡ true → HasPlainArguments (member item.now) }
     ensures binds { BindsIf (member item.now) result binding.old binding.new }
     ensures keeps { Keeps binding.old binding.new }
 {
@@ -150,7 +156,10 @@ fn bind_item<A: Allocator + Copy>(item: &BodyItem<A>, binding: &mut Binding<'_, 
             Some(n) => binding.bind_number(*x, n),
             None => false,
         },
-        BodyItem::Add(pattern) => binding.have_bound_values(pattern),
+        BodyItem::Add(pattern) => {
+            binding.are_within();
+            is_plain || binding.have_bound_values(pattern)
+        }
     }
 }
 
@@ -168,11 +177,12 @@ fn bind_body<A: Allocator + Copy>(
     ensures completed { CompletedIf rule.now result binding.old binding.new }
     ensures keeps { Keeps binding.old binding.new }
 {
+    let is_plain = rule.is_plain();
     for item in rule.body() {
         if !heads_are_bound && !are_parts_bound(item, binding) {
             return false;
         }
-        if !bind_item(item, binding) {
+        if !bind_item(item, binding, is_plain) {
             return false;
         }
     }

@@ -1,13 +1,16 @@
 -- Rules told by their words.
-use Rattle.std.proofs.Common.{◌≡◌, ◌↔◌, ◌<◌, ◌≤◌, ◌+◌, ℕ, ℤ, pos, unsigned_abs, int_lt, Bool, true, false, ◌&&◌, eqb, IsTrue, List, [], ◌∷◌, ◌++◌, append_assoc, length, take, get_or, map, refl, sym, ap, ap₂, ◌∙◌, arith, flat_map}
+use Rattle.std.proofs.Common.{◌≡◌, ◌↔◌, ◌<◌, ◌≤◌, ◌+◌, ℕ, ℤ, pos, unsigned_abs, int_lt, Bool, true, false, ◌&&◌, eqb, IsTrue, List, [], ◌∷◌, ◌++◌, append_assoc, length, take, get_or, map, Option, Some, None, IsSome, IfSome, refl, sym, ap, ap₂, ◌∙◌, arith, flat_map}
+use Rattle.std.specs.List.{AllByRecursion}
 use Rattle.std.proofs.lemmas.Bool.Decides.{nat_tests}
 use Rattle.std.proofs.lemmas.Grind.{common_steps}
 use Rattle.std.proofs.lemmas.List.{append-nil, flat_map_more}
+use Rattle.chr_value.specs.Atoms.{Int, Sym, Comp}
 use Rattle.chr_rule.specs.declared.expression.Operator.{Operator}
 use Rattle.chr_rule.specs.declared.expression.Relation.{Relation}
 use Rattle.chr_rule.specs.Code.{number_of}
-use Rattle.chr_rule.specs.Rules.{Number, Variable, Operation, Compared, Same, Differ, Is, Add, Simpagation}
-use Rattle.chr_rule.specs.Words.{RuleWord, words, natural_kind, negative_kind, integer_words, term_words, atom_words, expression_words, relation_number, test_words, member_words, rule_words, IsWritten}
+use Rattle.chr_rule.specs.Rules.{Term, Var, Given, Open, Number, Variable, Operation, Compared, Same, Differ, BodyItem, Is, Add, Simpagation}
+use Rattle.chr_rule.specs.Terms.{IsPlain, HasPlainArguments, HasPlainBody}
+use Rattle.chr_rule.specs.Words.{RuleWord, words, natural_kind, negative_kind, add_kind, sizes, integer_words, term_words, atom_words, expression_words, relation_number, test_words, member_words, rule_words, IsWritten}
 use Rattle.chr_rule.proofs.Places.{map-more}
 
 -- The words of two parts begin lists that are equal: the parts are equal, and so is what comes after them.
@@ -92,6 +95,49 @@ written_same a b ns ms told w v means = (
   λ t. rules_tell a b (sym w ∙ ap words (means.0 t) ∙ v),
   λ e. means.1 (same_numbers ns ms (w ∙ ap rule_words e ∙ sym v)),
 )
+
+-- words that numbers stand for
+abbrev AreNumbers : List RuleWord → Type 0
+AreNumbers ws = (ns : List ℕ) × (words ns ≡ ws)
+
+-- words before others are so, and so are the others
+parted : (ws rest : List RuleWord) (ns : List ℕ) → words ns ≡ ws ++ rest → AreNumbers ws × AreNumbers rest
+parted [] rest ns e = (([], refl), (ns, e))
+parted (w ∷ ws) rest [] e = absurd (cc)
+parted (w ∷ ws) rest (n ∷ ns) e = let r = parted ws rest ns (cc) in ((n ∷ r.0.0, cc r.0.1), r.1)
+
+-- a property of each part that numbers stand for
+all_written : {X : Type 0} (f : X → List RuleWord) (P : X → Type 0) → ((x : X) → AreNumbers (f x) → P x) → (xs : List X) → AreNumbers (flat_map f xs) → AllByRecursion P xs
+all_written f P each [] are = tt
+all_written f P each (x ∷ xs) are = let two = parted (f x) (flat_map f xs) are.0 are.1 in (each x two.0, all_written f P each xs two.1)
+
+plain_term : (t : Term ℕ) → AreNumbers (term_words t) → IsPlain t
+plain_term (Var x) are = tt
+plain_term (Given (Int z)) are = tt
+plain_term (Given (Sym s)) are = tt
+plain_term (Given (Comp s vs)) ([], e) = absurd (cc)
+plain_term (Given (Comp s vs)) (n ∷ ns, e) = absurd (cc)
+plain_term (Open s ts) ([], e) = absurd (cc)
+plain_term (Open s ts) (n ∷ ns, e) = absurd (cc)
+
+plain_member : (m : BodyItem ℕ) → AreNumbers (member_words m) → HasPlainArguments m
+plain_member (Is x e) are = tt
+plain_member (Add a) are =
+    let args = parted (words (add_kind ∷ a.name ∷ length a.args ∷ [])) (flat_map term_words a.args) are.0 are.1 in
+    all_written term_words IsPlain plain_term a.args args.1
+
+-- the body of a rule that has words
+written_plain : (a : Simpagation ℕ) (ns : List ℕ) → IsWritten a ns → HasPlainBody a
+written_plain a ns w =
+    let heads = parted (words (sizes a)) _ ns w in
+    let removed = parted (flat_map atom_words a.kept) _ heads.1.0 heads.1.1 in
+    let guard = parted (flat_map atom_words a.removed) _ removed.1.0 removed.1.1 in
+    let body = parted (flat_map test_words a.guard) _ guard.1.0 guard.1.1 in
+    all_written member_words HasPlainArguments plain_member a.body body.1
+
+pub plain_body : {A : Type 0} (numbers : A → List ℕ) (a : Simpagation ℕ) (o : Option A) → IfSome o (λ written. IsWritten a (numbers written)) → IsSome o → HasPlainBody a
+plain_body numbers a (Some written) w some = written_plain a (numbers written) w
+plain_body numbers a None w some = absurd (cc)
 
 -- one part more after those so far
 pub pushed_more : {X Y : Type 0} (f : Y → List RuleWord) (g : X → Y) (xs : List X) (i : ℕ) (x : X) (old mid new : List RuleWord) → i < length xs → x ≡ get_or xs i x → mid ≡ old ++ flat_map f (map g (take i xs)) → new ≡ mid ++ f (g x) → new ≡ old ++ flat_map f (map g (take (i + 1) xs))

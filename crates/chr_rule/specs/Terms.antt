@@ -1,6 +1,7 @@
 -- Which terms a rule may have.
 use Rattle.std.specs.Prelude.{◌≡◌, ℕ, suc, ◌+◌, ◌≤◌, max, Bool, true, false, ◌||◌, List, Option}
 use Rattle.std.specs.List.{AllByRecursion}
+use Rattle.chr_value.specs.Atoms.{Int, Sym, Comp}
 use Rattle.chr_value.specs.Limits.{depth, size, most_depth, most_size, left_of}
 use Rattle.chr_rule.specs.Rules.{Term, Var, Given, Open, Terms, End, And, terms_of, RuleAtom, Comparison, Compared, Same, Differ, BodyItem, Is, Add, Simpagation}
 
@@ -93,3 +94,19 @@ abbrev pub is_open : {N : Type 0} → Term N → Bool
 is_open (Var x) = true
 is_open (Given v) = false
 is_open (Open s ts) = true
+
+-- a variable, a number or a symbol
+abbrev pub IsPlain : {N : Type 0} → Term N → Type 0
+IsPlain (Var x) = Unit {0}
+IsPlain (Given (Int z)) = Unit {0}
+IsPlain (Given (Sym s)) = Unit {0}
+IsPlain (Given (Comp s vs)) = ⊥
+IsPlain (Open s ts) = ⊥
+
+-- each argument of a constraint of the body is such a term
+abbrev pub HasPlainArguments : {N : Type 0} → BodyItem N → Type 0
+HasPlainArguments (Is x e) = Unit {0}
+HasPlainArguments (Add a) = AllByRecursion IsPlain a.args
+
+abbrev pub HasPlainBody : {N : Type 0} → Simpagation N → Type 0
+HasPlainBody rule = AllByRecursion HasPlainArguments rule.body

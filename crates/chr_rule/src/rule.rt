@@ -4,7 +4,7 @@ ghost use Rattle.std.specs.Option.{option_map};
 ghost use Rattle.chr_rule.specs.Parts.{shape, comparison, member};
 ghost use Rattle.chr_rule.specs.Rules.{head_at, of_parts};
 ghost use Rattle.chr_rule.specs.Scope.{IsRule};
-ghost use Rattle.chr_rule.specs.Terms.{HasTerms};
+ghost use Rattle.chr_rule.specs.Terms.{HasPlainBody, HasTerms};
 
 use crate::expression::{BodyItem, Comparison};
 use crate::parts::{are_same, are_valid};
@@ -258,5 +258,14 @@ impl<A: Allocator> Rule<A> {
         ensures valid { IsRule self.now }
     {
         &self.body
+    }
+
+    /// Whether it is known that each argument of the body's constraints is a variable, a number or a symbol. It may be so
+    /// where it isn't known.
+    #[inline(always)]
+    pub fn is_plain(&self) -> bool
+        ensures { IsTrue result → HasPlainBody self.now }
+    {
+        self.words.is_some()
     }
 }

@@ -1,8 +1,9 @@
 use Rattle.std.proofs.Common.{arith, ◌≡◌, ◌≤◌, length, true, false, refl, sym, subst, ◌∙◌}
 use Rattle.std.proofs.lemmas.List.{length-map}
 use Rattle.chr_rule.specs.Parts.{member}
+use Rattle.chr_rule.specs.Terms.{HasPlainArguments}
 use Rattle.chr_guard.specs.Bindings.{PartsBound}
-use Rattle.chr_guard.proofs.Steps.{read_as}
+use Rattle.chr_guard.proofs.Steps.{all_at, read_as}
 use Rattle.chr_guard.proofs.Matched.{completing_start, completing_end, item_place, item_ready, item_unready, item_more, item_stop}
 use Rattle.chr_guard.proofs.Bindings.{keeps_both, narrows_keeps}
 use Rattle.chr_guard.proofs.body.bind_body.Goals as goal
@@ -23,7 +24,8 @@ bind_item-requires g c =
       | else-not-heads_are_bound-via-then-not-heads_are_bound+else-not-are_parts_bound w ↦ w.are_parts_bound.ensures.0 w.if-not-are_parts_bound.false
       | else-not-heads_are_bound-via-else-not-heads_are_bound w ↦ item_ready c.args.rule.now c.loop-item.item-index c.args.binding.now c.loop-item.binding read.0 c.loop-item.invariant (member c.item-item.result) read.1 (c.requires.heads w.if-not-heads_are_bound.false)
     ] in
-    (omega arith, (item_place c.args.rule.now c.loop-item.item-index c.args.binding.now c.loop-item.binding read.0 c.loop-item.invariant (member c.item-item.result) read.1, ready))
+    let plain : c.is_plain-is_plain.result ≡ true → HasPlainArguments (member c.item-item.result) = λ told. (all_at HasPlainArguments c.args.rule.now.body c.loop-item.item-index (member c.item-item.result) read.0 read.1 (c.is_plain-is_plain.ensures told)).1 in
+    (omega arith, (item_place c.args.rule.now c.loop-item.item-index c.args.binding.now c.loop-item.binding read.0 c.loop-item.invariant (member c.item-item.result) read.1, (ready, plain)))
 
 pub returns-then-not-bind_item-clause-completed : goal.returns-then-not-bind_item-clause-completed
 returns-then-not-bind_item-clause-completed g c =
