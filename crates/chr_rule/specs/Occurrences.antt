@@ -4,6 +4,10 @@ use Rattle.chr_value.specs.declared.atom.Pred.{Pred}
 use Rattle.chr_rule.specs.declared.occurrences.Occurrence.{Occurrence}
 use Rattle.chr_rule.specs.Rules.{RuleAtom, Simpagation, head_at, rule_at}
 
+-- the predicate of a name with so many arguments
+abbrev pub pred_of : ℕ → ℕ → Pred
+pred_of n arity = record { name = record { number = n }; arity = arity }
+
 -- a head has a predicate
 pub record HasPred (head : RuleAtom ℕ) (p : Pred) : Type 0 where
   pub name : head.name ≡ p.name.number
@@ -37,18 +41,19 @@ pub record IsNextOccurrence (rules : List (Simpagation ℕ)) (p : Pred) (s i : �
   pub least : (r h : ℕ) → AtOrAfter s i r h → IsOccurrence rules p r h →
       AtOrAfter found.0 found.1 r h
 
--- heads of a predicate, as they are listed in order; heads of other predicates may come after them
+-- heads of a predicate, as they are listed in order; heads of the same name with other numbers of
+-- arguments may lie between
 pub record HeadsFrom : Type 0 where
   pub pred : Pred
   pub rest : List Occurrence
 
--- the occurrences of a predicate at or after a rule and a head are those at the front of a list, in
--- order
+-- the occurrences of a predicate at or after a rule and a head are those in a list that have its
+-- number of arguments, in order
 abbrev pub AreListedFrom : List (Simpagation ℕ) → Pred → ℕ → ℕ → List Occurrence → Type 0
 AreListedFrom rules p s i [] = NoneFrom rules p s i
 AreListedFrom rules p s i (o ∷ os) =
-    ((o.pred ≡ p → ⊥) → NoneFrom rules p s i)
-    × (o.pred ≡ p →
+    ((o.arity ≡ p.arity → ⊥) → AreListedFrom rules p s i os)
+    × (o.arity ≡ p.arity →
     IsNextOccurrence rules p s i (o.rule, o.head) ×
     AreListedFrom rules p o.rule (o.head + 1) os)
 

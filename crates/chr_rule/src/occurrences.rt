@@ -1,118 +1,67 @@
 //! Where rules have heads of a predicate.
-ghost use Rattle.std.specs.Prelude.{◌≡◌, ℕ, ◌+◌, ◌<◌, ◌≤◌, List, [], length, OnOk, MatchOption};
+ghost use Rattle.std.specs.Prelude.{◌≡◌, ℕ, ◌+◌, ◌*◌, ◌<◌, ◌≤◌, List, [], length, map, OnOk, MatchOption};
 ghost use Rattle.std.specs.List.{Contains, slice_index_or};
 ghost use Rattle.chr_rule.specs.declared.occurrences.Occurrence.{Occurrence as OccurrenceView};
 ghost use Rattle.chr_rule.specs.Rules.{Simpagation};
 ghost use Rattle.chr_rule.specs.Occurrences.{NoneFrom, IsNextOccurrence, AreHeadsFrom};
-ghost use Rattle.chr_rule.specs.Index.{rank, FitsRank, IsRising, IsRestFrom, HasInserted, HasHeadsOf};
+ghost use Rattle.chr_rule.specs.Index.{rank, ComesBefore, row_at, room_at, IsRising, IsInOrder, IsRestFrom, KeepsRows, HasRoomFor, HasPushed, HasHeadsOf};
 
-use crate::rule::Rule;
-use chr_value::Pred;
+use crate::rule::{MOST_HEADS, Rule};
+use chr_value::{Name, Pred};
 use std::alloc::{AllocError, Allocator};
 use std::marker::Model;
 
-/// A head's predicate, the number of its rule, and its own number in the rule.
+/// A head of some name: the number of its rule, its own number in the rule, and how many arguments it has.
 #[derive(Clone, Copy)]
 pub struct Occurrence {
-    pub pred: Pred,
     pub rule: u16,
     pub head: u8,
+    pub arity: u8,
 }
 
-impl Occurrence {
-    /// A number by which occurrences are in order: by name, arity, rule and head.
-    #[inline(always)]
-    fn rank(&self) -> u64
-        ensures rank { result ≡ rank self.now }
-        ensures fits { FitsRank self.now }
-    {
-        let name = u64::from(self.pred.name.number);
-        let arity = u64::from(self.pred.arity);
-        let rule = u64::from(self.rule);
-        let head = u64::from(self.head);
-        ((name * 256 + arity) * 65_536 + rule) * 256 + head
-    }
+/// A number by which the occurrences of a name are in order: by rule and head.
+fn rank_at(rule: u16, head: u8) -> u32
+    ensures rank { result ≡ rule * 256 + head }
+    ensures fits { head < 256 }
+{
+    u32::from(rule) * 256 + u32::from(head)
 }
 
-/// An occurrence, and its rank, by which it is in order: a search reads the ranks of many. Contracts see the occurrence.
-#[derive(Drop)]
-struct Ranked {
-    one: Occurrence,
-    order: u64,
-}
-
-impl Model for Ranked {
-    ghost use Rattle.std.specs.Prelude.{◌≡◌};
-    ghost use Rattle.chr_rule.specs.declared.occurrences.Occurrence.{Occurrence};
-    ghost use Rattle.chr_rule.specs.Index.{rank};
-
-    ghost Value = { Occurrence };
-
-    ghost view = { λ r. r.one };
-
-    ghost invariant = { λ r. r.order ≡ rank r.one };
-}
-
-impl Ranked {
-    fn of(one: Occurrence) -> Ranked
-        ensures one { result ≡ one }
-        ensures fits { FitsRank one }
-    {
-        Ranked {
-            one,
-            order: one.rank(),
-        }
-    }
-
-    fn occurrence(&self) -> Occurrence
-        ensures { result ≡ self.now }
-    {
-        self.one
-    }
-
-    #[inline(always)]
-    fn rank(&self) -> u64
-        ensures { result ≡ rank self.now }
-    {
-        self.order
-    }
-}
-
-/// Occurrences in order. Contracts see the list, and how many more there is room for.
+/// For each name, by its number, its occurrences in order. Contracts see the rows, and how many more each has room for.
 #[derive(Drop)]
 pub struct Occurrences<A: Allocator> {
-    list: Vec<Ranked, A>,
+    rows: Vec<Vec<Occurrence, A>, A>,
 }
 
 impl<A: Allocator> Model for Occurrences<A> {
-    ghost use Rattle.std.specs.Prelude.{◌-◌, vec_len, vec_capacity};
-    ghost use Rattle.chr_rule.specs.Index.{Index, IsInOrder};
+    ghost use Rattle.std.specs.Prelude.{◌-◌, map, vec_len, vec_capacity};
+    ghost use Rattle.chr_rule.specs.Index.{Index, AreInOrder};
 
     ghost Value = { Index };
 
-    ghost view = { λ o. record { items = o.list.items; room = vec_capacity o.list - vec_len o.list } };
+    ghost view = { λ o. record { rows = map (λ row. row.items) o.rows.items; rooms = map (λ row. vec_capacity row - vec_len row) o.rows.items } };
 
-    ghost invariant = { λ o. IsInOrder o.list.items };
+    ghost invariant = { λ o. AreInOrder (map (λ row. row.items) o.rows.items) };
 }
 
-/// The place of the first occurrence that is not before one.
-fn place_from(list: &[Ranked], from: &Occurrence) -> usize
-    requires { IsRising list.now }
-    ensures fits { FitsRank from.now }
-    ensures within { result ≤ length list.now }
-    ensures front { (k : ℕ) (d : OccurrenceView) → k < result → rank (slice_index_or list.now k d) < rank from.now }
-    ensures later { (k : ℕ) (d : OccurrenceView) → result ≤ k → k < length list.now → rank from.now ≤ rank (slice_index_or list.now k d) }
+/// The place of the first occurrence that is not before a rule and a head.
+fn place_from(row: &[Occurrence], rule: u16, head: u8) -> usize
+    requires { IsRising row.now }
+    ensures fits { head < 256 }
+    ensures within { result ≤ length row.now }
+    ensures front { (k : ℕ) (d : OccurrenceView) → k < result → rank (slice_index_or row.now k d) < rule * 256 + head }
+    ensures later { (k : ℕ) (d : OccurrenceView) → result ≤ k → k < length row.now → rule * 256 + head ≤ rank (slice_index_or row.now k d) }
 {
-    let rank = from.rank();
-    list.partition_point(|other| other.rank() < rank)
+    let from = rank_at(rule, head);
+    row.partition_point(|other| rank_at(other.rule, other.head) < from)
 }
 
 /// The heads of a predicate from a rule and a head on, by rule and then by head.
 #[derive(Drop)]
 pub struct HeadsFrom<'p> {
     pred: Pred,
-    /// The occurrences from there on, those of later predicates too.
-    rest: &'p [Ranked],
+    /// The occurrences of its name from there on, those with other numbers of arguments too.
+    rest: &'p [Occurrence],
 }
 
 impl<'p> Model for HeadsFrom<'p> {
@@ -130,75 +79,120 @@ impl<'p> HeadsFrom<'p> {
         ensures pred { self.new.pred ≡ self.old.pred }
         ensures next { (rules : List (Simpagation ℕ)) (s i : ℕ) → AreHeadsFrom rules self.old s i → MatchOption result (NoneFrom rules self.old.pred s i) (λ found. IsNextOccurrence rules self.old.pred s i found × AreHeadsFrom rules self.new found.0 (found.1 + 1)) }
     {
-        let Some((first, rest)) = self.rest.split_first() else {
-            return None;
-        };
-        let found = first.occurrence();
-        if found.pred != self.pred {
-            return None;
+        while let Some((first, rest)) = self.rest.split_first() {
+            self.rest = rest;
+            if first.arity == self.pred.arity {
+                return Some((first.rule, first.head));
+            }
         }
-        self.rest = rest;
-        Some((found.rule, found.head))
+        None
     }
 }
 
 impl<A: Allocator + Copy> Occurrences<A> {
     /// No occurrences. Takes no memory.
     pub fn new(alloc: A) -> Occurrences<A>
-        ensures { result.items ≡ [] }
+        ensures { result.rows ≡ [] }
     {
         Occurrences {
-            list: Vec::new(alloc),
+            rows: Vec::new(alloc),
         }
     }
 
-    /// Makes room for `more`. An `Err` is E01.
-    pub fn reserve(&mut self, more: usize) -> Result<(), AllocError>
-        ensures items { self.new.items ≡ self.old.items }
-        ensures room { OnOk result (more ≤ self.new.room) }
+    /// Makes room for the heads of a rule in the row of a name. An `Err` is E01.
+    fn reserve_row(&mut self, name: Name) -> Result<(), AllocError>
+        ensures keeps { KeepsRows self.old self.new }
+        ensures room { OnOk result (6 ≤ room_at self.new.rooms name.number) }
     {
-        self.list.reserve(more)
+        let place = name.number as usize;
+        let alloc = *self.rows.allocator();
+        for _ in self.rows.len()..place + 1 {
+            self.rows.push(Vec::new(alloc))?;
+        }
+        self.rows[place].reserve(MOST_HEADS)
     }
 
-    /// Puts one more in its place, for which there is room.
-    fn insert_reserved(&mut self, one: Occurrence)
-        requires room { 0 < self.old.room }
-        requires new { Contains self.old.items one → ⊥ }
-        ensures items { HasInserted self.old.items one self.new.items }
-        ensures room { self.new.room + 1 ≡ self.old.room }
+    /// Makes room for the heads of a rule. An `Err` is E01.
+    pub fn reserve(&mut self, rule: &Rule<A>) -> Result<(), AllocError>
+        ensures keeps { KeepsRows self.old self.new }
+        ensures room { OnOk result (HasRoomFor self.new rule.now) }
     {
-        let place = place_from(&self.list, &one);
-        let _ = self.list.insert(place, Ranked::of(one));
+        for head in 1..rule.heads() + 1 {
+            if let Some(pattern) = rule.head(head) {
+                self.reserve_row(pattern.name)?;
+            }
+        }
+        Ok(())
+    }
+
+    /// Puts one more at the end of the row of a name, where there is room.
+    fn push_reserved(&mut self, name: Name, one: Occurrence)
+        requires room { 0 < room_at self.old.rooms name.number }
+        requires last { (o : OccurrenceView) → Contains (row_at self.old.rows name.number) o → ComesBefore o one }
+        requires fits { one.head < 256 }
+        ensures rows { HasPushed self.old.rows name.number one self.new.rows }
+        ensures rooms { (n : ℕ) → room_at self.old.rooms n ≤ room_at self.new.rooms n + 1 }
+    {
+        self.rows[name.number as usize].push_reserved(one);
     }
 
     /// Adds the heads of a rule of a number above all others, for which there is room.
     pub fn add_rule(&mut self, number: u16, rule: &Rule<A>)
-        requires room { 6 ≤ self.old.room }
-        requires last { (o : OccurrenceView) → Contains self.old.items o → o.rule < number }
-        ensures { HasHeadsOf self.old.items number rule.now self.new.items }
+        requires room { HasRoomFor self.old rule.now }
+        requires last { (n : ℕ) (o : OccurrenceView) → Contains (row_at self.old.rows n) o → o.rule < number }
+        ensures { HasHeadsOf self.old.rows number rule.now self.new.rows }
     {
         for head in 1..rule.heads() as u8 + 1 {
             if let Some(pattern) = rule.head(usize::from(head)) {
-                self.insert_reserved(Occurrence {
-                    pred: pattern.pred(),
+                let pred = pattern.pred();
+                let arity = pred.arity;
+                let one = Occurrence {
                     rule: number,
                     head,
-                });
+                    arity,
+                };
+                self.push_reserved(pred.name, one);
             }
         }
     }
 
-    /// The heads of an occurrence's predicate from it on. It takes a search.
-    pub fn heads_from(&self, from: Occurrence) -> HeadsFrom<'_>
-        ensures pred { result.pred ≡ from.pred }
-        ensures rest { IsRestFrom self.now.items from result.rest }
-        ensures fits { FitsRank from }
-        ensures all_fit { (o : OccurrenceView) → Contains self.now.items o → FitsRank o }
+    /// The row of a name.
+    #[inline(always)]
+    fn row(&self, name: Name) -> &[Occurrence]
+        ensures row { result.now ≡ row_at self.now.rows name.number }
+        ensures order { IsInOrder result.now }
     {
-        let place = place_from(&self.list, &from);
+        match self.rows.get(name.number as usize) {
+            Some(row) => row,
+            None => &[],
+        }
+    }
+
+    /// The heads of a predicate.
+    #[inline(always)]
+    pub fn heads_of(&self, pred: Pred) -> HeadsFrom<'_>
+        ensures pred { result.pred ≡ pred }
+        ensures rest { result.rest ≡ row_at self.now.rows pred.name.number }
+        ensures order { IsInOrder result.rest }
+    {
         HeadsFrom {
-            pred: from.pred,
-            rest: &self.list[place..],
+            pred,
+            rest: self.row(pred.name),
+        }
+    }
+
+    /// The heads of a predicate from a rule and a head on. It takes a search.
+    pub fn heads_from(&self, pred: Pred, rule: u16, head: u8) -> HeadsFrom<'_>
+        ensures pred { result.pred ≡ pred }
+        ensures rest { IsRestFrom (row_at self.now.rows pred.name.number) (rule * 256 + head) result.rest }
+        ensures fits { head < 256 }
+        ensures order { IsInOrder (row_at self.now.rows pred.name.number) }
+    {
+        let row = self.row(pred.name);
+        let place = place_from(row, rule, head);
+        HeadsFrom {
+            pred,
+            rest: &row[place..],
         }
     }
 }

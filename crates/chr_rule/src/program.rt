@@ -7,8 +7,8 @@ ghost use Rattle.chr_rule.specs.Rules.{rule_at};
 ghost use Rattle.chr_rule.specs.Scope.{IsRule};
 ghost use Rattle.chr_rule.specs.Occurrences.{AreHeadsFrom};
 
-use crate::occurrences::{HeadsFrom, Occurrence, Occurrences};
-use crate::rule::{MOST_HEADS, Rule};
+use crate::occurrences::{HeadsFrom, Occurrences};
+use crate::rule::Rule;
 use chr_value::Pred;
 use std::alloc::{AllocError, Allocator};
 use std::marker::Model;
@@ -49,7 +49,7 @@ impl<A: Allocator> Model for Program<A> {
 
     ghost view = { λ p. map arc_value p.rules.items };
 
-    ghost invariant = { λ p. (length p.rules.items ≤ 256) × AllByRecursion IsRule (map arc_value p.rules.items) × IsIndexOf (map arc_value p.rules.items) p.occurrences.items };
+    ghost invariant = { λ p. (length p.rules.items ≤ 256) × AllByRecursion IsRule (map arc_value p.rules.items) × IsIndexOf (map arc_value p.rules.items) p.occurrences.rows };
 }
 
 impl<A: Allocator + Copy> Program<A> {
@@ -98,7 +98,16 @@ impl<A: Allocator + Copy> Program<A> {
         ensures pred { result.pred ≡ pred }
         ensures heads { AreHeadsFrom self.now result rule head }
     {
-        self.occurrences.heads_from(Occurrence { pred, rule, head })
+        self.occurrences.heads_from(pred, rule, head)
+    }
+
+    /// The heads of this predicate, by rule and then by head. It takes no search.
+    #[inline(always)]
+    pub fn heads_of(&self, pred: Pred) -> HeadsFrom<'_>
+        ensures pred { result.pred ≡ pred }
+        ensures heads { AreHeadsFrom self.now result 1 1 }
+    {
+        self.occurrences.heads_of(pred)
     }
 
     /// Adds a rule after the others.
@@ -108,7 +117,7 @@ impl<A: Allocator + Copy> Program<A> {
         ensures err { OnErr result (self.new ≡ self.old) }
     {
         self.rules.reserve(1)?;
-        self.occurrences.reserve(MOST_HEADS)?;
+        self.occurrences.reserve(&rule)?;
         let number = self.rules.len() as u16 + 1;
         self.occurrences.add_rule(number, &rule);
         // for its clause: the rule is in scope
