@@ -1,5 +1,5 @@
 -- The heads of rules by their names.
-use Rattle.std.proofs.Common.{◌≡◌, ◌↔◌, ℕ, Result, Ok, Err, OnOk, zero, suc, ◌+◌, ◌-◌, ◌*◌, ◌<◌, ◌≤◌, ◌⊎◌, inl, inr, List, [], ◌∷◌, ◌++◌, length, get_or, drop, Option, Some, None, IsSome, slice_get, slice_index, slice_set, map, Bool, true, false, eqb, refl, sym, ap, subst, ◌∙◌, arith, length-append, ◌≢◌}
+use Rattle.std.proofs.Common.{◌≡◌, ◌↔◌, ℕ, Result, Ok, Err, OnOk, zero, suc, ◌+◌, ◌-◌, ◌*◌, ◌<◌, ◌≤◌, ◌⊎◌, inl, inr, List, [], ◌∷◌, ◌++◌, length, get_or, drop, Option, Some, None, IsSome, slice_get, slice_set, map, refl, sym, ap, subst, ◌∙◌, arith, length-append, ◌≢◌}
 use Rattle.std.proofs.lemmas.Option.{slice_get_within, get_or_from_slice_get, slice_get-map, slice_get_read, slice_get_cases}
 use Rattle.std.proofs.lemmas.Grind.{common_steps, elements}
 use Rattle.std.proofs.lemmas.List.{length-map, get_or-drop, map-append, get_or-append_right}
@@ -10,8 +10,8 @@ use Rattle.chr_value.specs.declared.atom.Pred.{Pred}
 use Rattle.chr_rule.specs.declared.occurrences.Occurrence.{Occurrence}
 use Rattle.chr_rule.specs.Rules.{RuleAtom, Simpagation, heads_of, head_at, rule_at}
 use Rattle.chr_rule.specs.Scope.{IsRule}
-use Rattle.chr_rule.specs.Occurrences.{HasPred, HasPredAt, IsOccurrence, AtOrAfter, NoneFrom, IsNextOccurrence, AreListedFrom, pred_of}
-use Rattle.chr_rule.specs.Index.{Index, KeepsRows, HasRoomBelow, HasRoomFor, rank, ComesBefore, row_at, room_at, IsRising, IsInOrder, AreInOrder, IsRowOf, IsIndexOf, IsRestFrom, HasPushed, HasHeadsBelow, HasHeadsOf}
+use Rattle.chr_rule.specs.Occurrences.{HasPred, IsOccurrence, AtOrAfter, AreListedFrom, pred_of}
+use Rattle.chr_rule.specs.Index.{Index, KeepsRows, rank, ComesBefore, row_at, room_at, IsRising, IsInOrder, AreInOrder, IsRowOf, IsIndexOf, IsRestFrom, HasPushed, HasHeadsBelow, HasHeadsOf}
 
 -- the first of a list, or one behind it
 
@@ -201,8 +201,8 @@ module _ (rules : List (Simpagation ℕ)) (rows : List (List Occurrence)) (is : 
   pub all_listed : AreListedFrom rules p 1 1 row
   all_listed =
       heads_listed 1 1 row (omega arith) (whole_row row (1 * 256 + 1) order.rising (λ o h.
-          let x = (is.index p.name.number o).0 h in
-          omega (arith, rule_ranked o.rule x.rule x.rule_is, head_ranked x.rule o.head x.at.head x.at.head_is)))
+      let x = (is.index p.name.number o).0 h in
+      omega (arith, rule_ranked o.rule x.rule x.rule_is, head_ranked x.rule o.head x.at.head x.at.head_is)))
 
 -- one more rule
 

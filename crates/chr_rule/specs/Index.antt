@@ -1,8 +1,7 @@
 -- The heads of rules by their names.
-use Rattle.std.specs.Prelude.{◌≡◌, ℕ, ◌+◌, ◌*◌, ◌<◌, ◌≤◌, ◌⊎◌, ◌↔◌, List, [], Option, Some, slice_index_or, slice_index}
+use Rattle.std.specs.Prelude.{◌≡◌, ℕ, ◌+◌, ◌*◌, ◌<◌, ◌≤◌, ◌⊎◌, ◌↔◌, List, [], Some, slice_index_or, slice_index}
 use Rattle.std.specs.List.{AllByRecursion, AllPairs, Contains}
 use Rattle.chr_rule.specs.declared.occurrences.Occurrence.{Occurrence}
-use Rattle.chr_value.specs.declared.atom.Pred.{Pred}
 use Rattle.chr_rule.specs.Rules.{RuleAtom, Simpagation, head_at}
 use Rattle.chr_rule.specs.Occurrences.{HasPredAt, IsOccurrence, pred_of}
 

@@ -141,7 +141,7 @@ impl<'s> Walk<'s> {
         Walk {
             rule: 1,
             head: 1,
-            heads: program.heads_from(atom.pred(), 1, 1),
+            heads: program.heads_of(atom.pred()),
         }
     }
 }
