@@ -106,14 +106,14 @@ fn nested<A: Allocator + Copy>(
 /// operation, each side is a number by the end of its match.
 #[inline(always)]
 fn compared<A: Allocator + Copy>(
-    relation: Relation,
+    relation: &Relation,
     a: &Expr<A>,
     b: &Expr<A>,
     binding: &Binding<'_, A>,
 ) -> bool
     requires left { AllBound binding.now (expression a.now) }
     requires right { AllBound binding.now (expression b.now) }
-    ensures { IsTrue result ↔ Holds (bound_at binding.now) (Compared relation (expression a.now) (expression b.now)) }
+    ensures { IsTrue result ↔ Holds (bound_at binding.now) (Compared relation.now (expression a.now) (expression b.now)) }
 {
     let left = match a {
         Expr::Number(n) => *n,
@@ -137,7 +137,7 @@ fn compared<A: Allocator + Copy>(
             None => return false,
         },
     };
-    compare(relation, left, right)
+    compare(*relation, left, right)
 }
 
 /// Whether a comparison holds. None does where a side has no value; a number never equals a symbol. A value past the
@@ -158,12 +158,11 @@ fn bound_holds<A: Allocator + Copy>(test: &Comparison<A>, binding: &Binding<'_, 
     requires { SidesBound binding.now (comparison test.now) }
     ensures { IsTrue result ↔ Holds (bound_at binding.now) (comparison test.now) }
 {
-    let (s, t, are_same) = match test {
-        Comparison::Numbers(relation, a, b) => return compared(*relation, a, b, binding),
-        Comparison::Same(s, t) => (s, t, true),
-        Comparison::Differ(s, t) => (s, t, false),
-    };
-    binding.are_compared(s, t, are_same)
+    match test {
+        Comparison::Same(s, t) => binding.are_compared(s, t, true),
+        Comparison::Differ(s, t) => binding.are_compared(s, t, false),
+        Comparison::Numbers(relation, a, b) => compared(relation, a, b, binding),
+    }
 }
 
 /// Whether each comparison of a guard holds. In those of numbers the variables are bound.
