@@ -1,5 +1,5 @@
 -- Going over the trials below labels.
-use Rattle.std.proofs.Common.{◌≡◌, ℕ, zero, suc, ◌+◌, ◌-◌, ◌<◌, ◌≤◌, true, List, [], ◌∷◌, ◌++◌, length, Option, refl, sym, ◌∙◌, ap, subst, arith, length-append, inr}
+use Rattle.std.proofs.Common.{◌≡◌, ℕ, zero, suc, ◌+◌, ◌-◌, ◌<◌, ◌≤◌, ◌==◌, true, false, List, [], ◌∷◌, ◌++◌, length, Option, refl, sym, ◌∙◌, ap, subst, arith, length-append, inr}
 use Rattle.std.proofs.lemmas.Bool.Decides.{nat_tests}
 use Rattle.chr_value.specs.Atoms.{Value}
 use Rattle.chr_search.specs.declared.passing.End.{End}
@@ -247,3 +247,59 @@ module _ (j : Join) (x : ℕ) (m : MayFollow j [] x) where
     passes = passes_more j 1 more.count [] (x ∷ 0 ∷ []) p.after (first_part a) p.passes;
     ends = first_ends path is p.after more.end ls binding p.ends;
   }
+
+  pub below_passed : (path : List ℕ) → path ≡ x ∷ [] → (place : List ℕ) (passed : Passed) (ls : List ℕ) (binding : List (Option (Value ℕ))) → PassesBelow j path place passed ls binding → PassesPlan j place passed ls binding
+  below_passed path is place passed ls binding p = record { after = p.after; passes = p.passes; ends = first_ends path is p.after passed.end ls binding p.ends }
+
+-- where none is left the labels are as before
+pub below_same : (j : Join) (path place : List ℕ) (passed : Passed) (ls : List ℕ) (binding : List (Option (Value ℕ))) → PassesBelow j path place passed ls binding → passed.end ≡ ends.NoneLeft → ls ≡ path
+below_same j path place passed ls binding p is = (subst (λ e. EndsBelow j path p.after e ls binding) is p.ends).0
+
+-- whether a place is behind one number, which is its first
+pub at_itself : (x y : ℕ) (below : List ℕ) → x ≡ y → at_or_after (x ∷ below) (y ∷ []) ≡ (length below == 0)
+at_itself x y [] e = grind (arith, nat_tests)
+at_itself x y (z ∷ below) e = grind (arith, nat_tests)
+
+pub behind_first : (place : List ℕ) (x y : ℕ) (below : List ℕ) → place ≡ x ∷ below → at_or_after place (y ∷ []) ≡ false → x ≤ y → x ≡ y
+behind_first place x y below is behind low =
+    let behind : at_or_after (x ∷ below) (y ∷ []) ≡ false = subst (λ p. at_or_after p (y ∷ []) ≡ false) is behind in
+    grind (arith, nat_tests)
+
+-- all trials come at or after a place that isn't behind the active label
+module _ (j : Join) (place : List ℕ) (ahead : at_or_after place (j.active ∷ []) ≡ true) where
+  there : (other : List ℕ) → Beyond (MayFollow j) 1 [] [] other → at_or_after place other ≡ true
+  there [] b = absurd (omega (arith, b.deep))
+  there (x ∷ xs) b = reaches place (subst (λ y. at_or_after place (y ∷ []) ≡ true) (sym b.grows.0.turn) ahead)
+    where
+      reaches : (p : List ℕ) → at_or_after p (x ∷ []) ≡ true → at_or_after p (x ∷ xs) ≡ true
+      reaches [] e = refl
+      reaches (y ∷ []) e = grind (arith, nat_tests)
+      reaches (y ∷ z ∷ p) e = grind (arith, nat_tests)
+
+  least_ahead : (ls : List ℕ) → Least (MayFollow j) 1 [] [] ls → Least (MayFollow j) 1 [] place ls
+  least_ahead ls l = record {
+    more = l.more;
+    is = l.is;
+    beyond = record { grows = l.beyond.grows; deep = l.beyond.deep; there = there l.more l.beyond };
+    least = λ other b. l.least other (record { grows = b.grows; deep = b.deep; there = refl });
+  }
+
+  ends_ahead : (end : End) (ls : List ℕ) (binding : List (Option (Value ℕ))) → (end ≡ ends.Enough → ⊥) → EndsIn j [] end ls binding → EndsIn j place end ls binding
+  ends_ahead ends.Whole ls binding more e = (least_ahead ls e.0, e.1)
+  ends_ahead ends.NoneLeft ls binding more e = λ other b. e other (record { grows = b.grows; deep = b.deep; there = refl })
+  ends_ahead ends.Enough ls binding more e = absurd (more refl)
+
+  plan_ahead : (n : ℕ) (end : End) (ls : List ℕ) (binding : List (Option (Value ℕ))) (after : List ℕ) → (end ≡ ends.Enough → 1 ≤ n) → PassesIn j n [] after → EndsIn j after end ls binding → PassesPlan j place (record { count = n; end = end }) ls binding
+  plan_ahead zero end ls binding after some p e = record {
+    after = place;
+    passes = refl;
+    ends = ends_ahead end ls binding (λ is. omega (arith, some is)) (subst (λ z. EndsIn j z end ls binding) p e);
+  }
+  plan_ahead (suc n) end ls binding after some (middle, one, more) e = record {
+    after = after;
+    passes = (middle, record { trial = one.trial; least = least_ahead one.trial one.least; verdict = one.verdict; right = one.right; other = one.other; on = one.on }, more);
+    ends = e;
+  }
+
+  pub passed_ahead : (most : ℕ) (passed : Passed) (ls : List ℕ) (binding : List (Option (Value ℕ))) → 1 ≤ most → IsCounted most passed → PassesPlan j [] passed ls binding → PassesPlan j place passed ls binding
+  passed_ahead most passed ls binding some counted p = plan_ahead passed.count passed.end ls binding p.after (λ is. omega (arith, counted.enough is)) p.passes p.ends

@@ -119,12 +119,12 @@ impl<'s, A: Allocator + Copy> Join<'s, A> {
         Some(LastHead {
             head,
             step: *step,
-            is_last: self.rule.heads() <= labels.len() + 1,
+            is_last: self.order.len() <= labels.len() + 1,
         })
     }
 
-    /// The labels among which are those that may be tried after these, to go through. None where there are none, or where
-    /// the store keeps no index for them.
+    /// The labels among which are those that may be tried after these, to go through. None where the store keeps no index for
+    /// them.
     #[inline(always)]
     pub(crate) fn partners(
         &self,
@@ -132,14 +132,12 @@ impl<'s, A: Allocator + Copy> Join<'s, A> {
         labels: &[Label],
         binding: &Binding<'s, A>,
     ) -> Option<Matches<'s>>
+        requires some { 1 ≤ length labels.now }
         requires plan { HasPlan (join_of self.now) }
         requires ready { IsReady (join_of self.now) labels.now binding.now }
         requires at { IsLastHead (join_of self.now) labels.now at }
         ensures { IfSome result (GivePartners (join_of self.now) labels.now) }
     {
-        if labels.is_empty() {
-            return None;
-        }
         // For the proof: the labels of a store are numbered from 1.
         let _given = self.view.active();
         let pred = pred_of(at.head);

@@ -25,6 +25,7 @@ mod passing;
 mod position;
 mod search;
 mod trial;
+mod walk;
 
 pub use fitted::{Fitted, is_misfit_alone};
 pub use front::Front;

@@ -1,5 +1,5 @@
 //! Trials in the store that are judged without being made.
-ghost use Rattle.std.specs.Prelude.{◌≡◌, ◌↔◌, ◌==◌, ◌≤◌, ◌<◌, ◌+◌, ◌^◌, ◌∷◌, ◌++◌, [], ℕ, max, List, length, drop, Some, IfSome, MatchOption, IsTrue};
+ghost use Rattle.std.specs.Prelude.{◌≡◌, ◌↔◌, ◌==◌, ◌≤◌, ◌<◌, ◌+◌, ◌^◌, ◌∷◌, ◌++◌, [], ℕ, false, max, List, length, drop, Some, IfSome, MatchOption, IsTrue};
 ghost use Rattle.std.specs.List.{list_any};
 ghost use Rattle.std.specs.Option.{option_map};
 ghost use Rattle.chr_value.specs.Stores.{atom_at};
@@ -8,6 +8,7 @@ ghost use Rattle.chr_search.specs.declared.passing.End.TheVariants as ends;
 ghost use Rattle.chr_search.specs.declared.passing.Stop.TheVariants as stops;
 ghost use Rattle.chr_search.specs.Joined.{join_of};
 ghost use Rattle.chr_search.specs.Partners.{HasPlan, IsReady, IsPartnerFrom, IsLastHead};
+ghost use Rattle.chr_search.specs.Positions.{at_or_after};
 ghost use Rattle.chr_search.specs.Passing.{IsTrialIn, BeginsTrials, AreMisfits, IsCounted, PassesPlan, IsLevel, IsNarrowedIf, IsTried, ComesNext, IsBelow, PassesBelow, PassesLevel};
 ghost use Rattle.chr_search.specs.Tree.{Grows};
 ghost use Rattle.chr_search.specs.Trials.{IsInTurn, MayFollow};
@@ -56,7 +57,7 @@ pub(crate) struct Level<'s, A: Allocator> {
     /// The variables that the labels before the last bind.
     known: Known,
     at: LastHead<'s, A>,
-    /// The labels among which it is. None where the store has no index for them, or it is the active one.
+    /// The labels among which it is. None where the store has no index for them.
     pub(crate) partners: Option<Matches<'s>>,
 }
 
@@ -107,38 +108,32 @@ fn is_among(labels: &[Label], label: Label) -> bool
 }
 
 impl<'l> Path<'l> {
-    /// The path of labels.
+    /// The path of labels, one at least.
     #[inline(always)]
     fn of(labels: &'l [Label]) -> Path<'l>
+        requires { 1 ≤ length labels.now }
         ensures labels { result.labels.now ≡ labels.now }
         ensures others { result.others.now ≡ drop 1 labels.now }
     {
-        let others = match labels.split_first() {
-            None => &[],
-            Some((_first, others)) => others,
-        };
-        Path { labels, others }
+        Path {
+            labels,
+            others: &labels[1..],
+        }
+    }
+
+    /// The path of no labels.
+    fn empty() -> Path<'l>
+        ensures labels { result.labels.now ≡ [] }
+        ensures others { result.others.now ≡ [] }
+    {
+        Path {
+            labels: &[],
+            others: &[],
+        }
     }
 }
 
 impl<'s, A: Allocator + Copy> Join<'s, A> {
-    /// The least label from one on that may be tried after these labels.
-    fn next_child(&self, labels: &[Label], binding: &Binding<'s, A>, from: Label) -> Option<Label>
-        requires begins { MayFollow (join_of self.now) [] self.now.view.active }
-        requires plan { HasPlan (join_of self.now) }
-        requires ready { IsReady (join_of self.now) labels.now binding.now }
-        ensures { IsPartnerFrom (join_of self.now) labels.now from result }
-    {
-        if !labels.is_empty() {
-            return self.next_partner(labels, binding, from);
-        }
-        let active = self.view.active();
-        if active < from {
-            return None;
-        }
-        Some(active)
-    }
-
     /// Whether a label may come after these as to its age: the active one first, and then those that are older.
     fn is_in_turn(&self, labels: &[Label], label: Label) -> bool
         ensures { IsTrue result ↔ IsInTurn (join_of self.now) labels.now label }
@@ -177,6 +172,7 @@ impl<'s, A: Allocator + Copy> Join<'s, A> {
     /// What the trials of these labels and one more have in common. None where no label may be tried after these.
     #[inline(always)]
     pub(crate) fn level(&self, labels: &[Label], binding: &Binding<'s, A>) -> Option<Level<'s, A>>
+        requires some { 1 ≤ length labels.now }
         requires plan { HasPlan (join_of self.now) }
         requires ready { IsReady (join_of self.now) labels.now binding.now }
         ensures { MatchOption result ((x : ℕ) → MayFollow (join_of self.now) labels.now x → ⊥) (IsLevel (join_of self.now) labels.now binding.now) }
@@ -199,7 +195,7 @@ impl<'s, A: Allocator + Copy> Join<'s, A> {
         after: Label,
     ) -> Option<Label>
         requires small { after + 1 < 2 ^ 64 }
-        requires begins { MayFollow (join_of self.now) [] self.now.view.active }
+        requires some { 1 ≤ length labels.now }
         requires plan { HasPlan (join_of self.now) }
         requires ready { IsReady (join_of self.now) labels.now binding.now }
         requires level { IsLevel (join_of self.now) labels.now binding.now level.old }
@@ -208,7 +204,7 @@ impl<'s, A: Allocator + Copy> Join<'s, A> {
     {
         match &mut level.partners {
             Some(partners) => partners.next_at(after, self.view.active()),
-            None => self.next_child(labels, binding, after + 1),
+            None => self.next_partner(labels, binding, after + 1),
         }
     }
 
@@ -222,7 +218,7 @@ impl<'s, A: Allocator + Copy> Join<'s, A> {
         after: Label,
     ) -> Option<(Label, &'s Atom<A>)>
         requires small { after + 1 < 2 ^ 64 }
-        requires begins { MayFollow (join_of self.now) [] self.now.view.active }
+        requires some { 1 ≤ length labels.now }
         requires plan { HasPlan (join_of self.now) }
         requires ready { IsReady (join_of self.now) labels.now binding.now }
         requires level { IsLevel (join_of self.now) labels.now binding.now level.old }
@@ -236,7 +232,7 @@ impl<'s, A: Allocator + Copy> Join<'s, A> {
                 Some((label, self.view.older(label)))
             }
             None => {
-                let label = self.next_child(labels, binding, after + 1)?;
+                let label = self.next_partner(labels, binding, after + 1)?;
                 let Some(atom) = self.view.get(label) else {
                     unreachable!();
                 };
@@ -299,6 +295,7 @@ impl<'s, A: Allocator + Copy> Join<'s, A> {
         binding: &mut Binding<'s, A>,
     ) -> Run
         requires begins { BeginsTrials (join_of self.now) }
+        requires path { 1 ≤ length instance.old.labels.items }
         requires grows { Grows (MayFollow (join_of self.now)) [] instance.old.labels.items }
         requires ready { IsReady (join_of self.now) instance.old.labels.items binding.old }
         requires level { IsLevel (join_of self.now) instance.old.labels.items binding.old level.old }
@@ -351,6 +348,7 @@ impl<'s, A: Allocator + Copy> Join<'s, A> {
     ) -> Stopped
         requires some { 1 ≤ most }
         requires begins { BeginsTrials (join_of self.now) }
+        requires path { 1 ≤ length instance.old.labels.items }
         requires grows { Grows (MayFollow (join_of self.now)) [] instance.old.labels.items }
         requires ready { IsReady (join_of self.now) instance.old.labels.items binding.old }
         requires level { IsLevel (join_of self.now) instance.old.labels.items binding.old level.old }
@@ -391,6 +389,7 @@ impl<'s, A: Allocator + Copy> Join<'s, A> {
     ) -> Passed
         requires some { 1 ≤ most }
         requires begins { BeginsTrials (join_of self.now) }
+        requires path { 1 ≤ length instance.old.labels.items }
         requires grows { Grows (MayFollow (join_of self.now)) [] instance.old.labels.items }
         requires ready { IsReady (join_of self.now) instance.old.labels.items binding.old }
         ensures counted { IsCounted most result }
@@ -439,6 +438,7 @@ impl<'s, A: Allocator + Copy> Join<'s, A> {
     ) -> Passed
         requires some { 1 ≤ most }
         requires begins { BeginsTrials (join_of self.now) }
+        requires path { 1 ≤ length instance.old.labels.items }
         requires grows { Grows (MayFollow (join_of self.now)) [] instance.old.labels.items }
         requires ready { IsReady (join_of self.now) instance.old.labels.items binding.old }
         ensures counted { IsCounted most result }
@@ -486,12 +486,12 @@ impl<'s, A: Allocator + Copy> Join<'s, A> {
             unreachable!();
         };
         binding.reset(self.rule.variables());
-        self.judge_at(at, self.rule, Path::of(&[]), active, atom, binding)
+        self.judge_at(at, self.rule, Path::empty(), active, atom, binding)
     }
 
     /// Passes over the trials from the first one on, up to one that is whole, at most so many. All of them begin with the
-    /// active label. The instance's labels become those of a trial that is whole, or of the place at which the search goes on
-    /// where as many were passed over as were asked for.
+    /// active label, which is the instance's only one. Its labels become those of a trial that is whole, or of the place at
+    /// which the search goes on where as many were passed over as were asked for, and else they stay.
     #[inline(always)]
     pub(crate) fn pass_first(
         &self,
@@ -501,10 +501,11 @@ impl<'s, A: Allocator + Copy> Join<'s, A> {
     ) -> Passed
         requires some { 1 ≤ most }
         requires begins { BeginsTrials (join_of self.now) }
+        requires alone { instance.old.labels.items ≡ self.now.view.active ∷ [] }
         ensures counted { IsCounted most result }
         ensures passes { PassesPlan (join_of self.now) [] result instance.new.labels.items binding.new }
+        ensures alone { result.end ≡ ends.NoneLeft → instance.new.labels.items ≡ self.now.view.active ∷ [] }
     {
-        let active = self.view.active();
         match self.judge_first(binding) {
             Verdict::Misfit => {
                 let count = 1;
@@ -512,17 +513,15 @@ impl<'s, A: Allocator + Copy> Join<'s, A> {
                     let end = End::NoneLeft;
                     return Passed { count, end };
                 }
-                set_alone(&mut instance.labels, active + 1);
+                set_alone(&mut instance.labels, self.view.active() + 1);
                 let end = End::Enough;
                 Passed { count, end }
             }
             Verdict::Whole => {
-                set_alone(&mut instance.labels, active);
                 let end = End::Whole;
                 Passed { count: 0, end }
             }
             Verdict::Part => {
-                set_alone(&mut instance.labels, active);
                 if most == 1 {
                     instance.labels.push(0);
                     let end = End::Enough;
@@ -537,8 +536,21 @@ impl<'s, A: Allocator + Copy> Join<'s, A> {
         }
     }
 
-    /// Passes over the trials at or after a place up to one that is whole, at most so many. The instance's labels become those
-    /// of a trial that is whole, or of the place at which the search goes on where as many were passed over as were asked for.
+    /// Whether a place is the active label's or one before it, so that all trials come at it or after it.
+    #[inline(always)]
+    pub(crate) fn is_ahead(&self, place: &[Label]) -> bool
+        ensures { result ≡ at_or_after place.now (self.now.view.active ∷ []) }
+    {
+        let active = self.view.active();
+        match place.split_first() {
+            None => true,
+            Some((first, below)) => *first < active || (*first == active && below.is_empty()),
+        }
+    }
+
+    /// Passes over the trials at or after a place behind the active label, up to one that is whole, at most so many. The
+    /// instance's only label is the active one. Its labels become those of a trial that is whole, or of the place at which the
+    /// search goes on where as many were passed over as were asked for, and else they stay.
     pub(crate) fn pass_from(
         &self,
         place: &[Label],
@@ -548,15 +560,29 @@ impl<'s, A: Allocator + Copy> Join<'s, A> {
     ) -> Passed
         requires some { 1 ≤ most }
         requires begins { BeginsTrials (join_of self.now) }
-        requires place { 1 ≤ length place.now }
+        requires behind { at_or_after place.now (self.now.view.active ∷ []) ≡ false }
+        requires alone { instance.old.labels.items ≡ self.now.view.active ∷ [] }
         ensures counted { IsCounted most result }
         ensures passes { PassesPlan (join_of self.now) place.now result instance.new.labels.items binding.new }
+        ensures alone { result.end ≡ ends.NoneLeft → instance.new.labels.items ≡ self.now.view.active ∷ [] }
     {
-        instance.labels.clear();
-        binding.reset(self.rule.variables());
+        let none = Passed {
+            count: 0,
+            end: End::NoneLeft,
+        };
         let Some((first, below)) = place.split_first() else {
             unreachable!();
         };
-        self.pass_on(*first, below, most, instance, binding)
+        if *first > self.view.active() {
+            return none;
+        }
+        let Some((next, rest)) = below.split_first() else {
+            unreachable!();
+        };
+        binding.reset(self.rule.variables());
+        if !self.narrow_by(&[], binding, *first) {
+            return none;
+        }
+        self.pass_on(*next, rest, most, instance, binding)
     }
 }

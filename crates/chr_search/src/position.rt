@@ -117,6 +117,16 @@ impl Position {
         }
     }
 
+    /// Becomes the first position of all.
+    #[inline(always)]
+    pub(crate) fn restart(&mut self)
+        ensures { self.new ≡ beginning }
+    {
+        self.labels.clear();
+        self.rule = 1;
+        self.head = 1;
+    }
+
     /// A copy of the position.
     pub(crate) fn copy(&self) -> Position
         ensures { result ≡ self.now }

@@ -21,12 +21,13 @@ use crate::join::Join;
 use crate::judged::{Judged, Verdict};
 use crate::passing;
 use crate::passing::End;
-use crate::position::Position;
+use crate::position::{Position, set_alone};
 use crate::trial::Trial;
+use crate::walk::Walk;
 use chr_guard::Binding;
 use chr_log::Labels;
 use chr_plan::{Plans, Step};
-use chr_rule::{HeadsFrom, Program, Rule};
+use chr_rule::{Program, Rule};
 use chr_store::{Label, Store, View};
 use chr_value::Atom;
 use std::alloc::{AllocError, Allocator};
@@ -90,7 +91,8 @@ impl Instance {
         requires head { 1 ≤ walk.now.head }
         requires trial { (t : TrialView) × IsTrialIn (join_of join.now) self.old.labels.items t }
         requires full { length self.old.labels.items ≡ length join.now.rule.now.kept + length join.now.rule.now.removed }
-        ensures { IsWholeAt (join_of join.now) walk.now.rule walk.now.head self.old.labels.items self.new.whole }
+        ensures whole { IsWholeAt (join_of join.now) walk.now.rule walk.now.head self.old.labels.items self.new.whole }
+        ensures labels { self.new.labels ≡ self.old.labels }
     {
         let labels = self.labels.as_slice();
         let whole = &mut self.whole;
@@ -122,30 +124,6 @@ pub struct Passed {
     pub then: Then,
 }
 
-/// Where a walk through the heads of a predicate stands, by a rule and a head of it.
-#[derive(Drop)]
-struct Walk<'s> {
-    /// The heads that come next.
-    heads: HeadsFrom<'s>,
-    rule: u16,
-    head: u8,
-}
-
-impl<'s> Walk<'s> {
-    /// The walk from the first rule and head on, through the heads of an atom's predicate.
-    #[inline(always)]
-    fn first<A: Allocator + Copy>(program: &'s Program<A>, atom: &Atom<A>) -> Walk<'s>
-        ensures begins { result.rule ∷ result.head ∷ [] ≡ beginning }
-        ensures ahead { (s : Space) → s.rules ≡ program.now → atom_at s.store s.active ≡ Some atom.now → AreAhead s result.rule result.head result.heads }
-    {
-        Walk {
-            rule: 1,
-            head: 1,
-            heads: program.heads_of(atom.pred()),
-        }
-    }
-}
-
 /// An active label, and how far its trials are ruled out.
 #[derive(Drop)]
 pub struct Search {
@@ -170,6 +148,15 @@ impl Search {
             label,
             position: Position::beginning(),
         }
+    }
+
+    /// Becomes the search of an active label, from the first trial on.
+    #[inline(always)]
+    pub fn restart(&mut self, label: Label)
+        ensures { self.new ≡ record { label = label; place = beginning } }
+    {
+        self.label = label;
+        self.position.restart();
     }
 
     /// A copy of the search. It takes no memory.
@@ -583,6 +570,7 @@ impl Search {
         requires head { 1 ≤ walk.now.head }
         requires whole { end ≡ ends.Whole → (t : TrialView) × IsTrialIn (join_of join.now) instance.old.labels.items t × (length instance.old.labels.items ≡ length join.now.rule.now.kept + length join.now.rule.now.removed) }
         ensures label { self.new.label ≡ self.old.label }
+        ensures labels { instance.new.labels ≡ instance.old.labels }
         ensures then { IsThenAfter (join_of join.now) walk.now.rule walk.now.head instance.old.labels.items end result instance.new.whole self.old.place self.new.place }
     {
         match end {
@@ -599,7 +587,8 @@ impl Search {
         }
     }
 
-    /// Passes over the trials of the plans from where a walk stands on, of each from its first one on, at most so many.
+    /// Passes over the trials of the plans from where a walk stands on, of each from its first one on, at most so many. The
+    /// instance's only label is the active one.
     #[inline(always)]
     fn pass_plans<'s, A: Allocator + Copy>(
         &mut self,
@@ -615,6 +604,7 @@ impl Search {
         requires plans { ArePlans program.now plans.now }
         requires active { view.now.active ≡ self.old.label }
         requires ahead { AreAhead (older program.now plans.now view.now.store.entries self.old.label) walk.old.rule walk.old.head walk.old.heads }
+        requires alone { instance.old.labels.items ≡ view.now.active ∷ [] }
         ensures few { result.count ≤ most }
         ensures more { result.then ≡ thens.More → result.count ≡ most }
         ensures label { self.new.label ≡ self.old.label }
@@ -645,7 +635,8 @@ impl Search {
         }
     }
 
-    /// Passes over the trials of the plan at which a walk stands, at or after the position, at most so many.
+    /// Passes over the trials of the plan at which a walk stands, at or after the position, at most so many. The instance's
+    /// only label is the active one, and stays where no trial is left.
     fn pass_in_plan<'s, A: Allocator + Copy>(
         &self,
         join: &Join<'s, A>,
@@ -656,11 +647,13 @@ impl Search {
     ) -> passing::Passed
         requires some { 1 ≤ most }
         requires begins { BeginsTrials (join_of join.now) }
+        requires alone { instance.old.labels.items ≡ join.now.view.active ∷ [] }
         ensures counted { IsCounted most result }
         ensures passes { PassesPlan (join_of join.now) (labels_in self.now.place walk.now.rule walk.now.head) result instance.new.labels.items bound.new }
+        ensures alone { result.end ≡ ends.NoneLeft → instance.new.labels.items ≡ join.now.view.active ∷ [] }
     {
         let place = self.labels_in(walk);
-        if place.is_empty() {
+        if join.is_ahead(place) {
             return join.pass_first(most, instance, bound);
         }
         join.pass_from(place, most, instance, bound)
@@ -700,6 +693,7 @@ impl Search {
             order,
             view: view.copy(),
         };
+        set_alone(&mut instance.labels, self.label);
         let first = self.pass_in_plan(&join, &walk, most, instance, bound);
         let count = first.count;
         if let Some(then) = self.then_after(&join, &walk, first.end, instance) {
@@ -788,6 +782,7 @@ impl Search {
         }
         let view = View::with(store, atom);
         let mut walk = Walk::first(program, atom);
+        set_alone(&mut instance.labels, self.label);
         self.pass_plans(program, plans, &view, &mut walk, most, instance, bound)
     }
 }

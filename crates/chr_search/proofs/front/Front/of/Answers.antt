@@ -52,7 +52,8 @@ seen g c = sym (c.as_slice.ensures.value ∙ c.in_ok-labels.ensures.0)
 pub level-requires : goal.level-requires
 level-requires g c =
     let at = goal.at.level-requires g c in
-    (omega arith, ((join g at.In_ok-join).plan, subst (λ ls. IsReady (join_of c.in_ok-join.join) ls c.narrow_by_all.new.binding) (seen g at.After-as_slice) c.in_ok-labels.ensures.2))
+    let some : 1 ≤ length c.args.placed.now = c.requires.some in
+    (omega arith, (subst (λ ls. 1 ≤ length ls) (seen g at.After-as_slice) (omega (arith, length-map c.args.placed.now (λ p. p.label))), ((join g at.In_ok-join).plan, subst (λ ls. IsReady (join_of c.in_ok-join.join) ls c.narrow_by_all.new.binding) (seen g at.After-as_slice) c.in_ok-labels.ensures.2)))
 
 pub returns-in_err-level : goal.returns-in_err-level
 returns-in_err-level g c =

@@ -79,7 +79,7 @@ pass_below-below-requires g t c κs within =
     let grown = grows_more _ [] path label c.requires.grows here.part.follows in
     let less : 6 - length c.push.new.self.items < 6 - length c.args.instance.now.labels.items = omega (arith, ap length pushed, length-append path (label ∷ []), room _ c.requires.begins.plan path label here.part.follows) in (
       subst (λ n. 6 - length c.push.new.self.items < n) c.decreases less,
-      (within, (omega arith, (omega (arith, c.pass_level-beside.ensures.few, c.loop-label.invariant.less, c.if-count-most.false), (c.requires.begins, (subst (Grows (MayFollow (join_of c.args.self.now)) []) (sym pushed) grown, subst (λ ls. IsReady (join_of c.args.self.now) ls c.pass_level-beside.new.binding) (sym pushed) here.part.tried.1))))),
+      (within, (omega arith, (omega (arith, c.pass_level-beside.ensures.few, c.loop-label.invariant.less, c.if-count-most.false), (c.requires.begins, (omega (arith, ap length pushed, length-append path (label ∷ [])), (subst (Grows (MayFollow (join_of c.args.self.now)) []) (sym pushed) grown, subst (λ ls. IsReady (join_of c.args.self.now) ls c.pass_level-beside.new.binding) (sym pushed) here.part.tried.1)))))),
     )
 
 deeper : (g : _) (t : _) (c : After-pass_below-below g t) (after : List ℕ) → IsBelow (join_of c.args.self.now) c.push.new.self.items after 0 → PassesBelow (join_of c.args.self.now) c.push.new.self.items after c.pass_below-below.result c.pass_below-below.new.instance.labels.items c.pass_below-below.new.binding

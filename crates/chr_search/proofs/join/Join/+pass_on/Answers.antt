@@ -1,4 +1,4 @@
-use Rattle.std.proofs.Common.{◌≡◌, ◌+◌, ◌<◌, ◌≤◌, ℕ, [], ◌∷◌, ◌++◌, length, refl, sym, ap, subst, ◌∙◌, arith}
+use Rattle.std.proofs.Common.{◌≡◌, ◌+◌, ◌<◌, ◌≤◌, ℕ, [], ◌∷◌, ◌++◌, length, length-append, refl, sym, ap, subst, ◌∙◌, arith}
 use Rattle.std.proofs.lemmas.List.{nil_from_length}
 use Rattle.chr_guard.specs.Bindings.{Keeps}
 use Rattle.chr_guard.proofs.Bindings.{keeps_both, keeps_itself}
@@ -55,7 +55,7 @@ pass_on-deeper-requires g t c κs within =
     let grown = grows_more (MayFollow j) [] path first c.requires.grows m in
     let less : length c.in-Some.rest.now < length c.args.below.now = (let e = ap length c.in-Some.ensures.cases.0 in omega arith) in (
       subst (λ n. length c.in-Some.rest.now < n) c.decreases less,
-      (within, (omega arith, (c.requires.some, (c.requires.begins, (subst (Grows (MayFollow j) []) (sym pushed) grown, subst (λ ls. IsReady j ls c.narrow_by.new.narrowed) (sym pushed) ready))))),
+      (within, (omega arith, (c.requires.some, (c.requires.begins, (omega (arith, ap length pushed, length-append path (first ∷ [])), (subst (Grows (MayFollow j) []) (sym pushed) grown, subst (λ ls. IsReady j ls c.narrow_by.new.narrowed) (sym pushed) ready)))))),
     )
 
 -- the place below it
@@ -129,7 +129,7 @@ pass_below-beside-requires g t c =
     let j = join_of c.args.self.now in
     let left = left g t at.After-return_to in
     let ready = subst (IsReady j c.args.instance.now.labels.items) (sym (returned g t at.After-return_to)) c.requires.ready in
-    (omega arith, (omega (arith, left.less), (c.requires.begins, (subst (Grows (MayFollow j) []) (sym left.same) c.requires.grows, subst (λ ls. IsReady j ls c.return_to.new.self) (sym left.same) ready))))
+    (omega arith, (omega (arith, left.less), (c.requires.begins, (subst (λ ls. 1 ≤ length ls) (sym left.same) c.requires.path, (subst (Grows (MayFollow j) []) (sym left.same) c.requires.grows, subst (λ ls. IsReady j ls c.return_to.new.self) (sym left.same) ready)))))
 
 pub returns-clause-counted : goal.returns-clause-counted
 returns-clause-counted g t c =

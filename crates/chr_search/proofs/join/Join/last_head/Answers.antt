@@ -1,9 +1,11 @@
-use Rattle.std.proofs.Common.{◌≡◌, ◌+◌, length, Some, None, IsSome, slice_get, sym, subst, ◌∙◌, arith}
+use Rattle.std.proofs.Common.{◌≡◌, ◌+◌, length, Some, None, IsSome, slice_get, sym, subst, ◌∙◌, arith, length-append}
 use Rattle.std.proofs.lemmas.Bool.Decides.{nat_tests}
 use Rattle.chr_index.proofs.Slots.{get_there}
 use Rattle.chr_rule.specs.Parts.{shape}
 use Rattle.chr_rule.specs.Rules.{head_at}
 use Rattle.chr_search.specs.Joined.{join_of}
+use Rattle.chr_plan.specs.Orders.{heads_of}
+use Rattle.chr_search.proofs.Plans.{order_of_plan}
 use Rattle.chr_search.proofs.Asking.{past_get, step_head}
 use Rattle.chr_search.proofs.join.Join.last_head.Goals.{In_ok-step}
 use Rattle.chr_search.proofs.join.Join.last_head.Goals as goal
@@ -23,7 +25,9 @@ head_at-head-requires g c =
 pub returns : goal.returns
 returns g c =
     let rule = c.args.self.now.rule.now in
-    let count : c.heads.result ≡ length rule.kept + length rule.removed = c.heads.ensures.count in
+    let plan = c.requires.plan in
+    let count : length c.args.self.now.order.now ≡ length (heads_of rule) = (order_of_plan (heads_of rule) plan.head c.args.self.now.order.now plan.from plan.to plan.plan).count in
+    let all : length (heads_of rule) ≡ length rule.kept + length rule.removed = length-append rule.kept rule.removed in
     record {
       step_is = next g (goal.at.returns g c).In_ok-step;
       head_is = subst (λ n. head_at rule n ≡ Some (shape c.head_at-head.result.now)) c.from.ensures (sym c.head_at-head.ensures.head);

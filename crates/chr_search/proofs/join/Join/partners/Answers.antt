@@ -1,5 +1,4 @@
-use Rattle.std.proofs.Common.{◌≡◌, ◌-◌, ◌≤◌, length, Some, refl, sym, subst, ◌∙◌, ap, arith}
-use Rattle.std.proofs.lemmas.Bool.Decides.{nat_tests}
+use Rattle.std.proofs.Common.{◌≡◌, ◌-◌, ◌≤◌, Some, refl, sym, subst, ◌∙◌, ap, arith}
 use Rattle.std.proofs.lemmas.Option.{IfSome_then}
 use Rattle.chr_index.proofs.Slots.{get_there}
 use Rattle.chr_value.specs.Atoms.{said}
@@ -14,12 +13,9 @@ use Rattle.chr_search.proofs.Asking.{IsKeyed, keyed, keyed_term, key_some, asked
 use Rattle.chr_search.proofs.join.Join.partners.Goals.{After-pred_of-pred, Joined-at, in-None, in-Some+in_ok-term-in-Some+in_ok-value-in-Some}
 use Rattle.chr_search.proofs.join.Join.partners.Goals as goal
 
-some : (g : _) (c : After-pred_of-pred g) → 1 ≤ length c.args.labels.now
-some g c = grind (arith, nat_tests, c.is_empty.ensures, c.if-is_empty.false)
-
 -- what the head has at the key's place
 here : (g : _) (c : After-pred_of-pred g) (place : _) → c.args.at.step.key ≡ Some place → IsKeyed (join_of c.args.self.now) c.args.labels.now c.args.binding.now c.args.at.step (shape c.args.at.head.now) place
-here g c = keyed (join_of c.args.self.now) c.requires.plan _ _ (some g c) c.requires.ready _ c.requires.at.step_is (shape c.args.at.head.now) c.requires.at.head_is
+here g c = keyed (join_of c.args.self.now) c.requires.plan _ _ c.requires.some c.requires.ready _ c.requires.at.step_is (shape c.args.at.head.now) c.requires.at.head_is
 
 pub overflow_sub-from : goal.overflow_sub-from
 overflow_sub-from g c =
@@ -58,5 +54,5 @@ returns g c =
     } in
     IfSome_then c.matches.result c.matches.ensures.least (λ among among_least from found least.
     least_partner j c.args.labels.now c.args.binding.now from _
-    (asked j c.args.labels.now c.args.binding.now from question _ (from - 1) _ (some g at) c.requires.ready is refl refl c.active-given.ensures.labelled.given)
+    (asked j c.args.labels.now c.args.binding.now from question _ (from - 1) _ c.requires.some c.requires.ready is refl refl c.active-given.ensures.labelled.given)
     found (among_least (from - 1) found least))

@@ -1,4 +1,4 @@
-use Rattle.std.proofs.Common.{◌≡◌, suc, ◌+◌, ◌^◌, ◌<◌, max, refl, ℕ, List, [], ◌∷◌, ◌++◌, sym, ap, drop, subst, ◌∙◌, length-append, arith}
+use Rattle.std.proofs.Common.{◌≡◌, suc, ◌+◌, ◌^◌, ◌<◌, ◌≤◌, max, length, refl, ℕ, List, [], ◌∷◌, ◌++◌, sym, ap, drop, subst, ◌∙◌, length-append, arith}
 use Rattle.chr_guard.specs.Bindings.{Keeps}
 use Rattle.chr_search.specs.declared.passing.Next.TheVariants.{Part, Whole}
 use Rattle.chr_search.specs.Joined.{join_of}
@@ -22,7 +22,7 @@ next_atom_after-requires g c =
     let seen = sym (c.of-path.ensures.labels ∙ c.as_slice.ensures.value) in
     let ready = subst (IsReady j c.of-path.result.labels.now) (sym c.loop-count.invariant.binding) (subst (λ ls. IsReady j ls c.args.binding.now) seen c.requires.ready) in
     let level = subst (IsLevel j c.of-path.result.labels.now c.loop-count.binding) (sym c.loop-count.invariant.same) (subst (λ b. IsLevel j c.of-path.result.labels.now b c.args.level.now) (sym c.loop-count.invariant.binding) (subst (λ ls. IsLevel j ls c.args.binding.now c.args.level.now) seen c.requires.level)) in
-    (omega arith, (c.loop-count.invariant.small, (c.requires.begins.begins, (c.requires.begins.plan, (ready, level)))))
+    (omega arith, (c.loop-count.invariant.small, (subst (λ ls. 1 ≤ length ls) seen c.requires.path, (c.requires.begins.plan, (ready, level)))))
 
 pub judge_at-requires : goal.judge_at-requires
 judge_at-requires g c =

@@ -28,8 +28,8 @@ put_at_heads-requires-clause-kept g c = ap length c.as_mut_slice-kept.ensures.va
 pub put_at_heads-requires-clause-removed : goal.put_at_heads-requires-clause-removed
 put_at_heads-requires-clause-removed g c = ap length c.as_mut_slice-removed.ensures.value ∙ c.resize-2.ensures ∙ sym (length-map c.removed.result.now shape) ∙ ap length c.removed.ensures.heads
 
-pub returns : goal.returns
-returns g c = record {
+pub returns-clause-whole : goal.returns-clause-whole
+returns-clause-whole g c = record {
   number_is = refl;
   kept_are = items-with_items c.resize.new.labels c.put_at_heads.new.kept (c.put_at_heads.auto.kept ∙ ap length c.as_mut_slice-kept.ensures.value)
       ∙ c.put_at_heads.ensures.kept ∙ ap (λ ls. labels_at_heads c.args.join.now.order.now ls 1 (length c.args.join.now.rule.now.kept)) c.as_slice-labels.ensures.value;

@@ -1,6 +1,9 @@
-use Rattle.std.proofs.Common.{◌≡◌, ◌+◌, ℕ, List, [], ◌∷◌, refl, sym, subst, ◌∙◌, arith}
+use Rattle.std.proofs.Common.{◌≡◌, ◌+◌, ℕ, List, [], ◌∷◌, refl, sym, ap, subst, ◌∙◌, arith}
+use Rattle.arrayvec.specs.ArrayVec.{ArrayVec}
+use Rattle.chr_store.specs.Views.{Seen}
 use Rattle.chr_search.specs.declared.passing.End.{End}
 use Rattle.chr_search.specs.declared.passing.End.TheVariants as ends
+use Rattle.chr_search.specs.Reach.{SearchState}
 use Rattle.chr_search.specs.Trials.{Join, older, join_in}
 use Rattle.chr_search.specs.Passing.{PassesIn, EndsIn, PassesFrom}
 use Rattle.chr_search.specs.PlanByPlan.{AreAhead, HasComeTo, IsJoinAt, IsNextJoin, labels_in}
@@ -52,7 +55,7 @@ passes g c k = subst (λ ls. PassesIn (join_in (older c.args.program.now c.args.
 pub pass_in_plan-first-requires : goal.pass_in_plan-first-requires
 pass_in_plan-first-requires g c =
     let h = here g (goal.at.pass_in_plan-first-requires g c).After-copy in
-    (omega arith, (c.requires.some, record { begins = h.join.begins; plan = h.join.plan; trials = trials_at _ _ _ _ h.join h.makes }))
+    (omega arith, (c.requires.some, (record { begins = h.join.begins; plan = h.join.plan; trials = trials_at _ _ _ _ h.join h.makes }, c.set_alone.ensures ∙ ap (λ (x : ℕ). x ∷ []) (ap (λ (s : SearchState). s.label) c.self.view_is ∙ sym (ap (λ (v : Seen). v.active) c.copy.ensures ∙ c.requires.active)))))
 
 pub then_after-requires : goal.then_after-requires
 then_after-requires g c =
@@ -83,7 +86,8 @@ pass_plans-rest-requires g c =
     let left = left g at.In_default-then_after in
     let label = c.then_after.ensures.label in
     let on = c.in-Some.ensures.ahead _ _ (ahead g at.After-first_walk-walk) in
-    (omega arith, (omega (arith, c.pass_in_plan-first.ensures.counted.less left.0), (c.requires.plans, (c.requires.active ∙ sym label, subst (λ (l : ℕ). AreAhead (older c.args.program.now c.args.plans.now c.args.view.now.store.entries l) c.next_plan.new.walk.rule (c.next_plan.new.walk.head + 1) c.next_plan.new.walk.heads) (sym label) on))))
+    let same = ap (λ (v : ArrayVec ℕ). v.items) c.then_after.ensures.labels ∙ subst (λ (v : Seen). c.pass_in_plan-first.new.instance.labels.items ≡ v.active ∷ []) c.copy.ensures (c.pass_in_plan-first.ensures.alone left.0) in
+    (omega arith, (omega (arith, c.pass_in_plan-first.ensures.counted.less left.0), (c.requires.plans, (c.requires.active ∙ sym label, (subst (λ (l : ℕ). AreAhead (older c.args.program.now c.args.plans.now c.args.view.now.store.entries l) c.next_plan.new.walk.rule (c.next_plan.new.walk.head + 1) c.next_plan.new.walk.heads) (sym label) on, same)))))
 
 pub returns-clause-passed : goal.returns-clause-passed
 returns-clause-passed g c =

@@ -4,6 +4,7 @@ use Rattle.chr_store.specs.Labels.{entered}
 use Rattle.chr_store.specs.Views.{Seen, IsSeen}
 use Rattle.chr_store.proofs.Views.{seen_active}
 use Rattle.chr_search.specs.Passing.{PassesFrom}
+use Rattle.chr_search.specs.Reach.{SearchState}
 use Rattle.chr_search.specs.Trials.{older}
 use Rattle.chr_search.proofs.Ending.{passes_to}
 use Rattle.chr_search.proofs.search.Search.pass_over_before.Goals.{After-with-view}
@@ -22,7 +23,7 @@ pub pass_plans-requires : goal.pass_plans-requires
 pass_plans-requires g c =
     let active = ap (λ (v : Seen). v.active) c.with-view.ensures ∙ sym c.requires.label in
     let ahead = c.first-walk.ensures.ahead (older c.args.program.now c.args.plans.now c.with-view.result.store.entries c.args.self.now.label) refl (live g (goal.at.pass_plans-requires g c).After-with-view) in
-    (omega arith, (omega (arith, c.if-most-eq0.false), (c.requires.plans, (active, ahead))))
+    (omega arith, (omega (arith, c.if-most-eq0.false), (c.requires.plans, (active, (ahead, c.set_alone.ensures ∙ ap (λ (x : ℕ). x ∷ []) (ap (λ (s : SearchState). s.label) c.self.view_is ∙ sym active))))))
 
 pub returns-clause-passed : goal.returns-clause-passed
 returns-clause-passed g c =

@@ -1,4 +1,6 @@
 use Rattle.std.proofs.Common.{◌≡◌, ◌+◌, ◌-◌, ℕ, List, [], ◌∷◌, refl, sym, ap, ap₂, subst, ◌∙◌, arith}
+use Rattle.arrayvec.specs.ArrayVec.{ArrayVec}
+use Rattle.chr_store.specs.Views.{Seen}
 use Rattle.chr_search.specs.declared.passing.End.{End}
 use Rattle.chr_search.specs.declared.passing.End.TheVariants as ends
 use Rattle.chr_search.specs.Reach.{SearchState}
@@ -47,7 +49,8 @@ pub pass_first-passed-requires : goal.pass_first-passed-requires
 pass_first-passed-requires g c =
     let i = c.loop-then.invariant in
     let h = has_join _ _ _ _ (join_of c.loop-then.join) i.reached.come i.join c.requires.plans c.args.view.now.store refl c.active-given.ensures.labelled in
-    (omega arith, (omega (arith, i.less), record { begins = h.join.begins; plan = h.join.plan; trials = trials_at _ _ _ _ h.join h.makes }))
+    let alone = subst (λ (v : Seen). c.loop-then.instance.labels.items ≡ v.active ∷ []) (sym i.view) i.alone in
+    (omega arith, (omega (arith, i.less), (record { begins = h.join.begins; plan = h.join.plan; trials = trials_at _ _ _ _ h.join h.makes }, alone)))
 
 pub then_after-requires : goal.then_after-requires
 then_after-requires g c =
@@ -89,6 +92,7 @@ loop-then-preserved g c =
       less = omega (arith, i.less, c.pass_first-passed.ensures.counted.less left.0);
       stays = left.1;
       view = i.view;
+      alone = ap (λ (v : ArrayVec ℕ). v.items) c.then_after.ensures.labels ∙ subst (λ (v : Seen). c.pass_first-passed.new.instance.labels.items ≡ v.active ∷ []) i.view (c.pass_first-passed.ensures.alone left.0);
       join = subst (IsJoinAt _ _ _) (sym (joined c.args.program.now c.args.plans.now c.loop-then.join.view c.args.view.now c.args.self.now.label c.in-Some-next_plan.rule.now c.in-Some-next_plan.order.now i.view c.requires.active)) n.join;
       reached = reached_on _ _ _ _ _ _ _ (on g at.After-pass_first-passed left.0) n.come;
       ahead = c.in-Some-next_plan.ensures.ahead _ _ i.ahead;
@@ -104,6 +108,7 @@ loop-then-init g c =
       less = omega (arith, c.requires.some);
       stays = refl;
       view = c.copy-view.ensures;
+      alone = c.requires.alone;
       join = subst (IsJoinAt _ _ _) (sym (joined c.args.program.now c.args.plans.now c.copy-view.result c.args.view.now c.args.self.now.label c.in-Some.rule.now c.in-Some.order.now c.copy-view.ensures c.requires.active)) n.join;
       reached = reached_on _ _ _ _ _ _ _ (reached_first _ _ _ _ (come_to_own _ c.args.walk.now.rule c.args.walk.now.head [])) n.come;
       ahead = c.in-Some.ensures.ahead _ _ c.requires.ahead;

@@ -10,6 +10,7 @@ invariant-loop-then g l = record {
   less : l.count < l.fn.most;
   stays : l.self ≡ l.fn.self;
   view : l.join.view ≡ l.fn.view;
+  alone : l.instance.labels.items ≡ l.fn.view.active ∷ [];
   join : IsJoinAt (older l.fn.program l.fn.plans l.fn.view.store.entries l.fn.self.label) l.walk.rule l.walk.head (join_of l.join);
   reached : HasReached (older l.fn.program l.fn.plans l.fn.view.store.entries l.fn.self.label) (l.fn.walk.rule ∷ l.fn.walk.head ∷ []) l.count l.walk.rule l.walk.head;
   ahead : AreAhead (older l.fn.program l.fn.plans l.fn.view.store.entries l.fn.self.label) l.walk.rule (l.walk.head + 1) l.walk.heads;
