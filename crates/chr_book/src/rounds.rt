@@ -9,7 +9,6 @@ ghost use Rattle.chr_book.specs.Passed.{IsHeldLive, rounds_in, MakesRounds, Make
 use crate::book::Book;
 use crate::firing::{end_rounds, end_start};
 use crate::passing::{pass_over, pass_over_before};
-use chr_search::Search;
 use chr_tickets::Tickets;
 use chr_value::Atom;
 use std::alloc::{AllocError, Allocator};
@@ -153,11 +152,11 @@ impl<A: Allocator + Copy> Book<A> {
         if !self.tickets.take_waiting(ticket, &mut self.started) {
             return Ok(None);
         }
-        let mut search = Search::begin(self.store.next_label());
+        self.search.restart(self.store.next_label());
         let first = self.tickets.next();
         let Ok(come) = pass_over_before(
             &mut self.tickets,
-            &mut search,
+            &mut self.search,
             &self.program,
             &self.plans,
             &self.store,
@@ -175,7 +174,7 @@ impl<A: Allocator + Copy> Book<A> {
             seat,
             ticket,
             &self.started,
-            &search,
+            &self.search,
             come.then,
             self.instance.whole(),
         ) else {

@@ -27,10 +27,10 @@ made g c =
     let x = c.self.inside in
     let out = is_lent x.tickets c.take_waiting.new.self c.args.ticket c.take_waiting.new.other x.started c.take_waiting.result c.if-not-take_waiting.false c.take_waiting.ensures.waits c.take_waiting.ensures.atom c.take_waiting.ensures.tickets in
     subst (λ rules. StartsRounds c.args.seat c.args.ticket (record { passed = c.in-Ok.come.count; last = c.in-Ok-end_start.last }) (book_of rules x.plans x.names x.log x.store x.tickets) (book_of rules x.plans x.names c.end_start.new.log c.end_start.new.store c.end_start.new.tickets)) c.deref.ensures
-    (started c.deref.result.now x.plans x.names x.log c.end_start.new.log x.store c.end_start.new.store x.tickets c.take_waiting.new.self c.pass_over_before.new.tickets c.end_start.new.tickets c.args.seat c.args.ticket c.take_waiting.new.other c.begin-search.result c.pass_over_before.new.search.place c.in-Ok.come c.pass_over_before.new.instance c.whole.result.now c.in-Ok-end_start.last
+    (started c.deref.result.now x.plans x.names x.log c.end_start.new.log x.store c.end_start.new.store x.tickets c.take_waiting.new.self c.pass_over_before.new.tickets c.end_start.new.tickets c.args.seat c.args.ticket c.take_waiting.new.other c.restart.new.self c.pass_over_before.new.search.place c.in-Ok.come c.pass_over_before.new.instance c.whole.result.now c.in-Ok-end_start.last
     (record { kept = subst (λ rules. IsKept (book_of rules x.plans x.names x.log x.store x.tickets)) (sym c.deref.ensures) c.self.invariant.0; waits = out.waits; atom = out.atom; room = subst (λ (b : BookState). b.next ≤ b.limit) (sym c.self.view_is) c.requires.room })
     out
-    (c.begin-search.ensures ∙ ap (λ (l : ℕ). record { label = l; place = beginning }) c.next_label.ensures.value)
+    (c.restart.ensures ∙ ap (λ (l : ℕ). record { label = l; place = beginning }) c.next_label.ensures.value)
     c.in-Ok.ensures.ok c.whole.ensures c.in-Ok-end_start.ensures.ok)
 
 cut : (g : Over) (c : After-take_back-in_default-end_start g) → StartsFewer c.args.seat c.args.ticket c.args.most (book_of (arc_value c.self.inside.program) c.self.inside.plans c.self.inside.names c.self.inside.log c.self.inside.store c.self.inside.tickets) (book_of (arc_value c.self.inside.program) c.self.inside.plans c.self.inside.names c.end_start.new.log c.end_start.new.store c.take_back-in_default-end_start.new.tickets)
@@ -38,10 +38,10 @@ cut g c =
     let x = c.self.inside in
     let out = is_lent x.tickets c.take_waiting.new.self c.args.ticket c.take_waiting.new.other x.started c.take_waiting.result c.if-not-take_waiting.false c.take_waiting.ensures.waits c.take_waiting.ensures.atom c.take_waiting.ensures.tickets in
     subst (λ rules. StartsFewer c.args.seat c.args.ticket c.args.most (book_of rules x.plans x.names x.log x.store x.tickets) (book_of rules x.plans x.names c.end_start.new.log c.end_start.new.store c.take_back-in_default-end_start.new.tickets)) c.deref.ensures
-    (started_fewer c.deref.result.now x.plans x.names x.log c.end_start.new.log x.store c.end_start.new.store x.tickets c.take_waiting.new.self c.pass_over_before.new.tickets c.end_start.new.tickets (take c.next-first.result c.end_start.new.tickets) c.take_back-in_default-end_start.new.tickets c.args.seat c.args.ticket c.args.most c.next-first.result c.take_waiting.new.other c.begin-search.result c.pass_over_before.new.search.place c.in-Ok.come c.pass_over_before.new.instance
+    (started_fewer c.deref.result.now x.plans x.names x.log c.end_start.new.log x.store c.end_start.new.store x.tickets c.take_waiting.new.self c.pass_over_before.new.tickets c.end_start.new.tickets (take c.next-first.result c.end_start.new.tickets) c.take_back-in_default-end_start.new.tickets c.args.seat c.args.ticket c.args.most c.next-first.result c.take_waiting.new.other c.restart.new.self c.pass_over_before.new.search.place c.in-Ok.come c.pass_over_before.new.instance
     (record { kept = subst (λ rules. IsKept (book_of rules x.plans x.names x.log x.store x.tickets)) (sym c.deref.ensures) c.self.invariant.0; waits = out.waits; atom = out.atom; room = subst (λ (b : BookState). b.next ≤ b.limit) (sym c.self.view_is) c.requires.room })
     out
-    (c.begin-search.ensures ∙ ap (λ (l : ℕ). record { label = l; place = beginning }) c.next_label.ensures.value)
+    (c.restart.ensures ∙ ap (λ (l : ℕ). record { label = l; place = beginning }) c.next_label.ensures.value)
     c.in-Ok.ensures.ok (omega (arith, c.in-Ok.ensures.few, c.requires.some)) c.in_default-end_start.ensures.err refl c.next-first.ensures.value c.take_back-in_default-end_start.ensures.waits c.take_back-in_default-end_start.ensures.other)
 
 -- ---- the goals
@@ -87,5 +87,5 @@ end_start-requires-clause-found g c =
     let x = c.self.inside in
     let found = c.in-Ok.ensures.ok in λ is.
     ap (λ (w : Whole). w.past.label) c.whole.ensures
-    ∙ (finds (older c.deref.result.now x.plans (entered x.store c.take_waiting.new.other).entries c.begin-search.result.label) found.over.after c.in-Ok.come.then c.pass_over_before.new.instance found.binding found.over.next is).1
-    ∙ ap (λ (z : SearchState). z.label) c.begin-search.ensures ∙ c.next_label.ensures.value
+    ∙ (finds (older c.deref.result.now x.plans (entered x.store c.take_waiting.new.other).entries c.restart.new.self.label) found.over.after c.in-Ok.come.then c.pass_over_before.new.instance found.binding found.over.next is).1
+    ∙ ap (λ (z : SearchState). z.label) c.restart.ensures ∙ c.next_label.ensures.value
