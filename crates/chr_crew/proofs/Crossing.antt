@@ -116,7 +116,7 @@ module _ (A : RattleType) (g : Ghosts A.Denot) where
   Tickets-send s y f = search (basis, maps.crosses, Ticket-send) fits 5000 depth 40
 
   pub Book-send : IsSend A → IsSync A → Frees g g.dealloc_token → IsSend (Book.the_row A g)
-  Book-send s y f = search (basis, Program-send, Program-sync, plans.the_send, names.the_send, Store-send, instance.the_field_send, Tickets-send, Atom-send) fits 5000 depth 40
+  Book-send s y f = search (basis, Program-send, Program-sync, plans.the_send, names.the_send, Store-send, instance.the_field_send, searched.the_send, Tickets-send, Atom-send) fits 5000 depth 40
 
 module _ (L1 L2 A : RattleType) (p : posts.Ghosts L1.Denot) (l : ledger.Ghosts L1.Denot) (n : naming.Ghosts L1.Denot) (m : ledger.Ghosts L2.Denot) (g : Ghosts A.Denot) where
   Inside-send : IsSend A → IsSync A → Frees g g.dealloc_token → IsSend (Inside.the_row L1 L2 A p l n m g)
