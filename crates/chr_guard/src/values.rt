@@ -44,11 +44,11 @@ pub(crate) fn bound_value<A: Allocator + Copy>(
     ensures { result ≡ value_of (bound_at binding.now) (expression expr.now) }
 {
     match expr {
-        Expr::Number(n) => Some(*n),
         Expr::Var(x) => match binding.bound(*x) {
             ValueRef::Int(n) => Some(n),
             _ => None,
         },
+        Expr::Number(n) => Some(*n),
         Expr::Operation(operator, a, b) => operation(*operator, a, b, binding),
     }
 }
@@ -69,11 +69,11 @@ fn operation<A: Allocator + Copy>(
     ensures { result ≡ both (computed operator) (value_of (bound_at binding.now) (expression a.now)) (value_of (bound_at binding.now) (expression b.now)) }
 {
     let left = match a {
-        Expr::Number(n) => *n,
         Expr::Var(x) => match binding.bound(*x) {
             ValueRef::Int(n) => n,
             _ => return None,
         },
+        Expr::Number(n) => *n,
         Expr::Operation(operator, a, b) => nested(*operator, a, b, binding)?,
     };
     let right = match b {
@@ -116,11 +116,11 @@ fn compared<A: Allocator + Copy>(
     ensures { IsTrue result ↔ Holds (bound_at binding.now) (Compared relation.now (expression a.now) (expression b.now)) }
 {
     let left = match a {
-        Expr::Number(n) => *n,
         Expr::Var(x) => match binding.bound(*x) {
             ValueRef::Int(n) => n,
             _ => return false,
         },
+        Expr::Number(n) => *n,
         Expr::Operation(operator, a, b) => match operation(*operator, a, b, binding) {
             Some(n) => n,
             None => return false,

@@ -30,8 +30,8 @@ pub enum Operator {
 /// An expression over whole numbers.
 #[derive(Drop)]
 pub enum Expr<A: Allocator> {
-    Number(i64),
     Var(u8),
+    Number(i64),
     Operation(Operator, Box<Expr<A>, A>, Box<Expr<A>, A>),
 }
 
