@@ -1,8 +1,8 @@
 -- The heads of rules by their names.
-use Rattle.std.proofs.Common.{◌≡◌, ◌↔◌, ℕ, Result, Ok, Err, OnOk, zero, suc, ◌+◌, ◌-◌, ◌*◌, ◌<◌, ◌≤◌, ◌⊎◌, inl, inr, List, [], ◌∷◌, ◌++◌, length, get_or, drop, Option, Some, None, IsSome, slice_get, slice_set, map, refl, sym, ap, subst, ◌∙◌, arith, length-append, ◌≢◌}
+use Rattle.std.proofs.Common.{◌≡◌, ◌↔◌, ℕ, Result, Ok, Err, OnOk, zero, suc, ◌+◌, ◌-◌, ◌*◌, ◌<◌, ◌≤◌, ◌⊎◌, inl, inr, List, [], ◌∷◌, ◌++◌, length, get_or, take, drop, Option, Some, None, IsSome, slice_get, slice_set, map, refl, sym, ap, ap₂, subst, ◌∙◌, arith, length-append, ◌≢◌}
 use Rattle.std.proofs.lemmas.Option.{slice_get_within, get_or_from_slice_get, slice_get-map, slice_get_read, slice_get_cases}
 use Rattle.std.proofs.lemmas.Grind.{common_steps, elements}
-use Rattle.std.proofs.lemmas.List.{length-map, get_or-drop, map-append, get_or-append_right}
+use Rattle.std.proofs.lemmas.List.{length-map, get_or-drop, map-append, take-append-drop}
 use Rattle.std.proofs.lemmas.List.Elements.{All-from_recursion, recursion_from_All, Contains-get_or}
 use Rattle.std.specs.List.{AllByRecursion, Contains}
 use Rattle.std.specs.List.Sorted.{IsNonDecreasingBy}
@@ -365,15 +365,6 @@ pub numbered_read : {X : Type 0} (f : X → Simpagation ℕ) (xs : List X) (n : 
 numbered_read f xs zero x ne h e = grind arith
 numbered_read f xs (suc k) x ne h e = grind (arith, slice_get-map, slice_get_read)
 
--- a head of a number, read from both lists
-head_read : {X : Type 0} (f : X → RuleAtom ℕ) (rule : Simpagation ℕ) (ks rs : List X) (j : ℕ) (x : X) → map f ks ≡ rule.kept → map f rs ≡ rule.removed → j < length ks + length rs → x ≡ get_or (ks ++ rs) j x → head_at rule (suc j) ≡ Some (f x)
-head_read f rule ks rs j x k r l there = rw (← k, ← r, ← map-append, slice_get-map, slice_get_read (ks ++ rs) (length ks + length rs) j x (sym (length-append ks rs)) l there)
-
--- a removed head, read from its own list
-pub head_removed : {X : Type 0} (f : X → RuleAtom ℕ) (rule : Simpagation ℕ) (ks rs : List X) (n : ℕ) (x : X) → map f ks ≡ rule.kept → map f rs ≡ rule.removed → n ≢ 0 → length ks ≤ n - 1 → n ≤ length ks + length rs → x ≡ get_or rs (n - 1 - length ks) x → head_at rule n ≡ Some (f x)
-head_removed f rule ks rs zero x k r ne h l e = grind arith
-head_removed f rule ks rs (suc j) x k r ne h l e = head_read f rule ks rs j x k r (omega arith) (grind (arith, get_or-append_right ks rs (length ks) j x refl))
-
 some_read : {X : Type 0} (found : Option X) (x : X) → found ≡ Some x → IsSome found
 some_read found x e = subst IsSome (sym e) refl
 
@@ -385,3 +376,11 @@ head_there rule (suc j) ne l = grind (arith, slice_get_cases (heads_of rule) j, 
 pub there_within : (rule : Simpagation ℕ) (n : ℕ) → IsSome (head_at rule n) → (n ≢ 0) × (n ≤ length rule.kept + length rule.removed)
 there_within rule zero h = cc
 there_within rule (suc j) h = grind (arith, slice_get_cases (heads_of rule) j, length-append)
+
+-- a head of a number, read from all of them
+pub head_read : {X : Type 0} (f : X → RuleAtom ℕ) (rule : Simpagation ℕ) (xs : List X) (kept n : ℕ) (x : X) → map f (take kept xs) ≡ rule.kept → map f (drop kept xs) ≡ rule.removed → IsSome (head_at rule n) → x ≡ get_or xs (n - 1) x → head_at rule n ≡ Some (f x)
+head_read f rule xs kept zero x k r some e = absurd (cc)
+head_read f rule xs kept (suc j) x k r some e =
+    let all : map f xs ≡ heads_of rule = ap (map f) (sym (take-append-drop kept xs)) ∙ map-append f (take kept xs) (drop kept xs) ∙ ap₂ (λ ks rs. ks ++ rs) k r in
+    let within : j < length xs = omega (arith, (there_within rule (suc j) some).1, length-map xs f, ap length all, length-append rule.kept rule.removed) in
+    rw (← all, slice_get-map, slice_get_read xs (length xs) j x refl within (e ∙ ap (λ i. get_or xs i x) (omega arith)))

@@ -1,7 +1,11 @@
 -- What is told of the parts of a rule, piece by piece.
-use Rattle.std.proofs.Common.{◌≡◌, ◌↔◌, ◌+◌, ◌<◌, ◌≤◌, ℕ, Bool, true, IsTrue, eqb, List, ◌++◌, length, map, Some, arith, sym, [], ◌∷◌, None, refl}
-use Rattle.std.proofs.lemmas.List.{length-map}
+use Rattle.std.proofs.Common.{◌≡◌, ◌↔◌, ◌+◌, ◌<◌, ◌≤◌, ℕ, Bool, true, IsTrue, eqb, List, ◌++◌, length, drop, map, Some, arith, sym, ap, [], ◌∷◌, None, refl}
+use Rattle.std.proofs.lemmas.List.{length-map, length-drop}
 use Rattle.std.proofs.lemmas.Bool.Decides.{nat_tests}
+use Rattle.chr_rule.specs.declared.rule_atom.RuleAtom.{RuleAtom as CodeRuleAtom}
+use Rattle.chr_rule.specs.declared.expression.Comparison.{Comparison as CodeComparison}
+use Rattle.chr_rule.specs.declared.expression.BodyItem.{BodyItem as CodeBodyItem}
+use Rattle.chr_rule.specs.Parts.{rule_of, shape}
 use Rattle.chr_rule.specs.Rules.{RuleAtom, Comparison, BodyItem, Simpagation, of_parts, Expression, Is}
 use Rattle.chr_rule.specs.Scope.{variable_count, IsWithinLimits, IsRule, expression_known, known_after_args, known_after_heads, known_after_body, known_then}
 use Rattle.chr_rule.specs.Terms.{HasTerms}
@@ -22,10 +26,16 @@ module _ {P T M : Type 0} (f : P → RuleAtom ℕ) (g : T → Comparison ℕ) (h
     terms = record { kept = terms.kept; removed = terms.removed; guard = terms.guard; body = terms.body };
   }
 
+-- a head of a rule is removed, so fewer are kept than it has
+pub kept_within : {Z : Type 0} (n : ℕ) (heads : List (CodeRuleAtom Z)) (kept : ℕ) (guard : List (CodeComparison Z)) (body : List (CodeBodyItem Z)) → IsRule (rule_of n heads kept guard body) → kept < length heads
+kept_within n heads kept guard body rule = omega (arith, rule.limits.removed, length-map (drop kept heads) shape, length-drop kept heads)
+
 -- rules of the same parts, but for the body, of which it is told
-pub same_rules : (told : Bool) (m n : ℕ) (ks ls rs ss : List (RuleAtom ℕ)) (ts us : List (Comparison ℕ)) (bs ds : List (BodyItem ℕ)) (rule other : Simpagation ℕ) → of_parts m ks rs ts bs ≡ rule → of_parts n ls ss us ds ≡ other
-    → m ≡ n → ks ≡ ls → rs ≡ ss → ts ≡ us → IsTrue told ↔ (bs ≡ ds) → IsTrue told ↔ (rule ≡ other)
-same_rules told m n ks ls rs ss ts us bs ds rule other is-rule is-other v k r t means = grind arith
+pub same_rules : (told : Bool) (rule other : Simpagation ℕ) → rule.variables ≡ other.variables → rule.kept ≡ other.kept → rule.removed ≡ other.removed → rule.guard ≡ other.guard → IsTrue told ↔ (rule.body ≡ other.body) → IsTrue told ↔ (rule ≡ other)
+same_rules told rule other v k r t means = (
+  λ yes. let b = means.0 yes in λ i. record { variables = v i; kept = k i; removed = r i; guard = t i; body = b i },
+  λ e. means.1 (ap (λ (x : Simpagation ℕ). x.body) e),
+)
 
 pub told_equal : (m n : ℕ) → eqb m n ≡ true → m ≡ n
 told_equal m n h = grind (arith, nat_tests)

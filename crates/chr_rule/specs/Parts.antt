@@ -1,5 +1,5 @@
 -- What the parts of a rule say, wherever they lie in memory.
-use Rattle.std.specs.Prelude.{ℕ, map}
+use Rattle.std.specs.Prelude.{ℕ, List, map, take, drop}
 use Rattle.chr_value.specs.Atoms.{ground}
 use Rattle.chr_rule.specs.declared.term.Term.{Term as CodeTerm, fold-Term}
 use Rattle.chr_rule.specs.declared.term.Term.TheOpen.{Term-F, Open-F}
@@ -10,7 +10,7 @@ use Rattle.chr_rule.specs.declared.expression.Comparison.{Comparison as CodeComp
 use Rattle.chr_rule.specs.declared.expression.Comparison.TheVariants as comparisons
 use Rattle.chr_rule.specs.declared.expression.BodyItem.{BodyItem as CodeBodyItem}
 use Rattle.chr_rule.specs.declared.expression.BodyItem.TheVariants as items
-use Rattle.chr_rule.specs.Rules.{Term, Var, Given, Open, terms_of, RuleAtom, Expression, Number, Variable, Operation, Comparison, Compared, Same, Differ, BodyItem, Is, Add}
+use Rattle.chr_rule.specs.Rules.{Term, Var, Given, Open, terms_of, RuleAtom, Expression, Number, Variable, Operation, Comparison, Compared, Same, Differ, BodyItem, Is, Add, Simpagation, of_parts}
 
 -- one level of a term, with the terms in it already seen as what they say
 abbrev pub argument_step : {A : Type 0} → Term-F A (Term ℕ) (Term ℕ) → Term ℕ
@@ -40,3 +40,10 @@ comparison (comparisons.Differ s t) = Differ (argument s) (argument t)
 abbrev pub member : {Z : Type 0} → CodeBodyItem Z → BodyItem ℕ
 member (items.Is x e) = Is x (expression e)
 member (items.Add p) = Add (shape p)
+
+-- the rule of these parts, where the first so many heads are kept
+abbrev pub rule_of : {Z : Type 0} → ℕ → List (CodeRuleAtom Z) → ℕ → List (CodeComparison Z) →
+    List (CodeBodyItem Z) → Simpagation ℕ
+rule_of n heads kept guard body =
+    of_parts n (map shape (take kept heads)) (map shape (drop kept heads)) (map comparison guard)
+    (map member body)

@@ -1,7 +1,7 @@
 //! Rules.
 ghost use Rattle.std.specs.Prelude.{◌≡◌, ◌+◌, ◌<◌, ◌≤◌, ℕ, length, map, Some, IsSome, IfSome, IsTrue, ◌↔◌};
 ghost use Rattle.std.specs.Option.{option_map};
-ghost use Rattle.chr_rule.specs.Parts.{shape, comparison, member};
+ghost use Rattle.chr_rule.specs.Parts.{shape, comparison, member, rule_of};
 ghost use Rattle.chr_rule.specs.Rules.{head_at, of_parts};
 ghost use Rattle.chr_rule.specs.Scope.{IsRule};
 ghost use Rattle.chr_rule.specs.Terms.{HasPlainBody, HasTerms};
@@ -29,8 +29,10 @@ pub const MOST_ITEMS: usize = 16;
 /// A rule: each variable that is used has a value by then, a term without variables is a value, and the limits are kept.
 pub struct Rule<A: Allocator> {
     variables: u8,
-    kept: Vec<RuleAtom<A>, A>,
-    removed: Vec<RuleAtom<A>, A>,
+    /// The heads in text order, the kept ones first.
+    heads: Vec<RuleAtom<A>, A>,
+    /// How many heads are kept.
+    kept: usize,
     guard: Vec<Comparison<A>, A>,
     body: Vec<BodyItem<A>, A>,
     /// The rule once more, where no term of it has a functor and there was memory for it.
@@ -42,8 +44,8 @@ impl<A: Allocator> Drop for Rule<A> {
     fn drop(self) {
         let Rule {
             variables: _,
+            heads: _,
             kept: _,
-            removed: _,
             guard: _,
             body: _,
             words: _,
@@ -52,9 +54,9 @@ impl<A: Allocator> Drop for Rule<A> {
 }
 
 impl<A: Allocator> Model for Rule<A> {
-    ghost use Rattle.std.specs.Prelude.{ℕ, map, IfSome};
+    ghost use Rattle.std.specs.Prelude.{ℕ, IfSome};
     ghost use Rattle.chr_rule.specs.Rules.{Simpagation};
-    ghost use Rattle.chr_rule.specs.Parts.{shape, comparison, member};
+    ghost use Rattle.chr_rule.specs.Parts.{rule_of};
     ghost use Rattle.chr_rule.specs.Scope.{IsRule};
     ghost use Rattle.chr_rule.specs.Words.{IsWritten};
     ghost use Rattle.chr_rule.specs.Codes.{rule_codes};
@@ -63,9 +65,9 @@ impl<A: Allocator> Model for Rule<A> {
 
     ghost coded = { Prim.hlevel rule_codes };
 
-    ghost view = { λ r. record { variables = r.variables; kept = map shape r.kept.items; removed = map shape r.removed.items; guard = map comparison r.guard.items; body = map member r.body.items } };
+    ghost view = { λ r. rule_of r.variables r.heads.items r.kept r.guard.items r.body.items };
 
-    ghost invariant = { λ r. let rule : Simpagation ℕ = record { variables = r.variables; kept = map shape r.kept.items; removed = map shape r.removed.items; guard = map comparison r.guard.items; body = map member r.body.items } in IsRule rule × IfSome r.words (λ written. IsWritten rule written.items) };
+    ghost invariant = { λ r. let rule : Simpagation ℕ = rule_of r.variables r.heads.items r.kept r.guard.items r.body.items in IsRule rule × IfSome r.words (λ written. IsWritten rule written.items) };
 }
 
 /// Whether a rule may have so many heads, comparisons and members of the body.
@@ -124,38 +126,44 @@ fn variables_of<A: Allocator>(
 
 impl<A: Allocator + Copy> Rule<A> {
     /// The rule of these parts, or None unless each variable has a value wherever it is used, a term without variables is a
-    /// value, and the limits are kept. How deep an expression nests is limited by the reader of rule text alone.
+    /// value, and the limits are kept. The heads are in text order, and the first `kept` of them are kept. How deep an
+    /// expression nests is limited by the reader of rule text alone.
     pub fn new(
-        kept: Vec<RuleAtom<A>, A>,
-        removed: Vec<RuleAtom<A>, A>,
+        heads: Vec<RuleAtom<A>, A>,
+        kept: usize,
         guard: Vec<Comparison<A>, A>,
         body: Vec<BodyItem<A>, A>,
     ) -> Option<Rule<A>>
-        ensures rule { IfSome result (λ rule. rule ≡ of_parts rule.variables (map shape kept.items) (map shape removed.items) (map comparison guard.items) (map member body.items)) }
+        ensures rule { IfSome result (λ rule. rule ≡ rule_of rule.variables heads.items kept guard.items body.items) }
         ensures valid { IfSome result IsRule }
-        ensures exact { IsSome result ↔ ((n : ℕ) × IsRule (of_parts n (map shape kept.items) (map shape removed.items) (map comparison guard.items) (map member body.items))) }
+        ensures exact { IsSome result ↔ ((n : ℕ) × IsRule (rule_of n heads.items kept guard.items body.items)) }
     {
-        let variables = variables_of(&kept, &removed, &guard, &body)?;
-        Some(Rule::from_parts(variables, kept, removed, guard, body))
+        if heads.len() <= kept {
+            return None;
+        }
+        let (kept_heads, removed_heads) = heads.split_at(kept);
+        let variables = variables_of(kept_heads, removed_heads, &guard, &body)?;
+        Some(Rule::from_parts(variables, heads, kept, guard, body))
     }
 
     /// The rule of these parts, of which the caller knows that they are those of a rule with so many variables.
     pub fn from_parts(
         variables: usize,
-        kept: Vec<RuleAtom<A>, A>,
-        removed: Vec<RuleAtom<A>, A>,
+        heads: Vec<RuleAtom<A>, A>,
+        kept: usize,
         guard: Vec<Comparison<A>, A>,
         body: Vec<BodyItem<A>, A>,
     ) -> Rule<A>
-        requires { IsRule (of_parts variables (map shape kept.items) (map shape removed.items) (map comparison guard.items) (map member body.items)) }
-        ensures { result ≡ of_parts variables (map shape kept.items) (map shape removed.items) (map comparison guard.items) (map member body.items) }
+        requires { IsRule (rule_of variables heads.items kept guard.items body.items) }
+        ensures { result ≡ rule_of variables heads.items kept guard.items body.items }
     {
-        let alloc = *removed.allocator();
-        let words = words_of(alloc, variables, &kept, &removed, &guard, &body);
+        let alloc = *heads.allocator();
+        let (kept_heads, removed_heads) = heads.split_at(kept);
+        let words = words_of(alloc, variables, kept_heads, removed_heads, &guard, &body);
         Rule {
             variables: variables as u8,
+            heads,
             kept,
-            removed,
             guard,
             body,
             words,
@@ -179,8 +187,8 @@ impl<A: Allocator> Rule<A> {
         ensures { IsTrue result ↔ (self.now ≡ other.now) }
     {
         self.variables == other.variables
-            && are_same(&self.kept, &other.kept)
-            && are_same(&self.removed, &other.removed)
+            && are_same(self.kept(), other.kept())
+            && are_same(self.removed(), other.removed())
             && are_same(&self.guard, &other.guard)
             && are_same(&self.body, &other.body)
     }
@@ -198,7 +206,7 @@ impl<A: Allocator> Rule<A> {
         ensures heads { map shape result.now ≡ self.now.kept }
         ensures valid { IsRule self.now }
     {
-        &self.kept
+        &self.heads[..self.kept]
     }
 
     /// The removed heads in text order, at least one. They are numbered after the kept ones.
@@ -206,7 +214,7 @@ impl<A: Allocator> Rule<A> {
         ensures heads { map shape result.now ≡ self.now.removed }
         ensures valid { IsRule self.now }
     {
-        &self.removed
+        &self.heads[self.kept..]
     }
 
     /// How many heads there are, from 1 to [`MOST_HEADS`].
@@ -215,7 +223,7 @@ impl<A: Allocator> Rule<A> {
         ensures few { result ≤ 6 }
         ensures valid { IsRule self.now }
     {
-        self.kept.len() + self.removed.len()
+        self.heads.len()
     }
 
     /// The head of a number that the rule has, from 1: kept heads first.
@@ -225,12 +233,7 @@ impl<A: Allocator> Rule<A> {
         ensures head { Some (shape result.now) ≡ head_at self.now number }
         ensures valid { IsRule self.now }
     {
-        let place = number - 1;
-        if place < self.kept.len() {
-            &self.kept[place]
-        } else {
-            &self.removed[place - self.kept.len()]
-        }
+        &self.heads[number - 1]
     }
 
     /// The same, or None where there is no such head.

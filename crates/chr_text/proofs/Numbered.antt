@@ -24,7 +24,11 @@ use Rattle.chr_value.specs.declared.value.Value.{Value as CodeValue}
 use Rattle.chr_value.specs.declared.value.Comp.{Comp as CodeComp}
 use Rattle.chr_value.specs.declared.names.Name.{Name}
 use Rattle.chr_value.proofs.Levels.{ground-Comp}
-use Rattle.chr_rule.specs.Parts.{argument}
+use Rattle.chr_rule.specs.Parts.{argument, shape, comparison, member, rule_of}
+use Rattle.chr_rule.specs.declared.rule_atom.RuleAtom.{RuleAtom as CodeRuleAtom}
+use Rattle.chr_rule.specs.declared.expression.Comparison.{Comparison as CodeComparison}
+use Rattle.chr_rule.specs.declared.expression.BodyItem.{BodyItem as CodeBodyItem}
+use Rattle.std.proofs.Math.Seq.{take-append_seam, drop-append_seam}
 use Rattle.chr_rule.specs.declared.term.Term as terms
 use Rattle.chr_rule.specs.declared.term.Term.{Term as CodeTerm}
 use Rattle.chr_rule.proofs.Levels.{argument-Var, argument-Given}
@@ -266,6 +270,10 @@ body_fails error table t1 t2 t3 r kept removed guard e1 e2 e3 h = rw (e1, e2, e3
 pub rule_done : (table t1 t2 t3 t4 : Table) (r : Simpagation (List ℕ)) (kept removed : List (RuleAtom ℕ)) (guard : List (Comparison ℕ)) (body : List (BodyItem ℕ)) → each numbered_rule_atom table r.kept ≡ Some (kept, t1) → each numbered_rule_atom t1 r.removed ≡ Some (removed, t2) → each number_test t2 r.guard ≡ Some (guard, t3) → each number_member t3 r.body ≡ Some (body, t4)
     → number_rule table r ≡ Some (of_parts r.variables kept removed guard body, t4)
 rule_done table t1 t2 t3 t4 r kept removed guard body e1 e2 e3 e4 = rw (e1, e2, e3, e4) refl
+
+-- the rule of heads that are joined
+pub heads_joined : {Z : Type 0} (n count : ℕ) (kept removed heads : List (CodeRuleAtom Z)) (guard : List (CodeComparison Z)) (body : List (CodeBodyItem Z)) → count ≡ length kept → heads ≡ kept ++ removed → rule_of n heads count guard body ≡ of_parts n (map shape kept) (map shape removed) (map comparison guard) (map member body)
+heads_joined n count kept removed heads guard body many joined = rw (many, joined, take-append_seam kept removed, drop-append_seam kept removed) refl
 
 -- a rule stays one
 pub rule_same : (r : Simpagation (List ℕ)) (table t1 t2 t3 t4 : Table) (kept removed : List (RuleAtom ℕ)) (guard : List (Comparison ℕ)) (body : List (BodyItem ℕ)) → each numbered_rule_atom table r.kept ≡ Some (kept, t1) → each numbered_rule_atom t1 r.removed ≡ Some (removed, t2) → each number_test t2 r.guard ≡ Some (guard, t3) → each number_member t3 r.body ≡ Some (body, t4)

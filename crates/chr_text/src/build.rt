@@ -163,9 +163,11 @@ pub fn number_rule<A: Allocator + Copy>(
     ensures keeps { (t : Table) → Keeps t names.old → Keeps t names.new }
 {
     let mut seen = Seen::new();
-    let kept = number_parts(alloc, names, &mut seen, &rule.heads.kept)?;
-    let removed = number_parts(alloc, names, &mut seen, &rule.heads.removed)?;
+    let mut heads = number_parts(alloc, names, &mut seen, &rule.heads.kept)?;
+    let kept = heads.len();
+    let mut removed = number_parts(alloc, names, &mut seen, &rule.heads.removed)?;
+    heads.append(&mut removed)?;
     let guard = number_parts(alloc, names, &mut seen, &rule.consequence.guard)?;
     let body = number_parts(alloc, names, &mut seen, &rule.consequence.body)?;
-    Ok(Rule::from_parts(seen.len(), kept, removed, guard, body))
+    Ok(Rule::from_parts(seen.len(), heads, kept, guard, body))
 }

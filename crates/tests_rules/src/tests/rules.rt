@@ -26,13 +26,21 @@ fn atom_from(alloc: Global, first: u8, count: u8) -> Option<RuleAtom<Global>> {
     atom_of(variables(alloc, first, count)?)
 }
 
-/// Heads, each by its first variable and the number of its variables.
-fn heads_of(alloc: Global, heads: &[(u8, u8)]) -> Option<Vec<RuleAtom<Global>>> {
-    let mut made = Vec::new(alloc);
+/// Adds heads, each by its first variable and the number of its variables.
+fn add_heads(alloc: Global, made: &mut Vec<RuleAtom<Global>>, heads: &[(u8, u8)]) -> Option<()> {
     for (first, count) in heads {
         made.push(atom_from(alloc, *first, *count)?).ok()?;
     }
-    Some(made)
+    Some(())
+}
+
+/// The kept heads of a row and then its removed ones.
+fn heads_of(alloc: Global, row: &Row) -> Option<Vec<RuleAtom<Global>>> {
+    let (kept, removed, _, _, _, _) = *row;
+    let mut heads = Vec::new(alloc);
+    add_heads(alloc, &mut heads, kept)?;
+    add_heads(alloc, &mut heads, removed)?;
+    Some(heads)
 }
 
 /// `count` comparisons of a variable with itself.
@@ -84,15 +92,14 @@ fn body_of(alloc: Global, row: &Row) -> Option<Vec<BodyItem<Global>>> {
 
 /// Whether the parts of a row are those of a rule. None where memory ran out.
 fn are_a_rule(alloc: Global, row: &Row) -> Option<bool> {
-    let (kept, removed, (comparisons, variable), _, _, _) = *row;
+    let (kept, _, (comparisons, variable), _, _, _) = *row;
     match (
-        heads_of(alloc, kept),
-        heads_of(alloc, removed),
+        heads_of(alloc, row),
         guard_of(alloc, comparisons, variable),
         body_of(alloc, row),
     ) {
-        (Some(kept), Some(removed), Some(guard), Some(body)) => {
-            Some(Rule::new(kept, removed, guard, body).is_some())
+        (Some(heads), Some(guard), Some(body)) => {
+            Some(Rule::new(heads, kept.len(), guard, body).is_some())
         }
         _ => None,
     }
@@ -254,7 +261,7 @@ fn head_with(alloc: Global, shape: Shape) -> Option<RuleAtom<Global>> {
 fn may_be_removed(alloc: Global, shape: Shape) -> Option<bool> {
     let mut heads = Vec::new(alloc);
     heads.push(head_with(alloc, shape)?).ok()?;
-    let rule = Rule::new(Vec::new(alloc), heads, Vec::new(alloc), Vec::new(alloc));
+    let rule = Rule::new(heads, 0, Vec::new(alloc), Vec::new(alloc));
     Some(rule.is_some())
 }
 
