@@ -12,8 +12,8 @@ use Rattle.chr_index.proofs.Chaining.{same_key_true as index_key_true, same_key_
 use Rattle.chr_store.specs.declared.buckets.Buckets.{Buckets}
 use Rattle.chr_store.specs.KeyParts.{Key, KeyValue, value_of, kind_of, word_of}
 use Rattle.chr_store.specs.Index.{Places, IsKeyAt, chosen, is_own, is_pred, is_place, number_of, own_key, pred_of, same_key, same_value}
-use Rattle.chr_store.specs.Rows.{row_of}
-use Rattle.chr_store.specs.KeyLabels.{index_key, is_word, value_labels, index_at, place_labels, other_key, other_labels, pred_labels, row_at, labels_in}
+use Rattle.chr_store.specs.Rows.{row_of, row_at}
+use Rattle.chr_store.specs.KeyLabels.{index_key, is_word, value_labels, index_at, place_labels, other_key, other_labels, pred_labels, labels_in}
 use Rattle.chr_store.proofs.Marks.{tells, chosen_numbered}
 use Rattle.chr_store.proofs.Stored.{pred_one}
 use Rattle.chr_store.proofs.KeyLaws.{same_key_true, same_value_true, same_value_refl}
@@ -242,21 +242,21 @@ number_key ps a kk pred place n o h name arity e is =
 -- ---- the labels of all keys
 
 pub own_others : {A : Type 0} (b : Buckets A) (pred : Pred) → row_of pred ≡ None → labels_in b (own_key pred) ≡ other_labels b.others pred
-own_others b pred none = ap (pred_labels b.rows.items b.others pred) none
+own_others b pred none = ap (pred_labels b.rows b.others pred) none
 
 pub place_labels_are : {A : Type 0} (b : Buckets A) (k : Key) (n : ℕ) → number_of b.places (pred_of k) k.place ≡ Some n → labels_in b k ≡ index_at b.indexes.items n k.value
 place_labels_are b k n there = elim (decided (is_own k)) [
   | inl o ↦ let z : 0 < k.place = place_over b.places (pred_of k) k.place n there in let w : k.place ≡ 0 = eqb-true k.place 0 (and_parts _ _ o).0 in absurd (omega arith)
   | inr o ↦
-      ap (λ (z : Bool). if z then pred_labels b.rows.items b.others (pred_of k) (row_of (pred_of k)) else place_labels b.indexes.items k.value (number_of b.places (pred_of k) k.place)) o
+      ap (λ (z : Bool). if z then pred_labels b.rows b.others (pred_of k) (row_of (pred_of k)) else place_labels b.indexes.items k.value (number_of b.places (pred_of k) k.place)) o
       ∙ ap (place_labels b.indexes.items k.value) there
 ]
 
 -- those of new buckets
-pub none_labels : {A : Type 0} (b : Buckets A) → b.rows.items ≡ [] → ((k : IndexKey) → labels_of b.others k ≡ []) → b.indexes.items ≡ [] → (k : Key) → labels_in b k ≡ []
+pub none_labels : {A : Type 0} (b : Buckets A) → b.rows ≡ [] → ((k : IndexKey) → labels_of b.others k ≡ []) → b.indexes.items ≡ [] → (k : Key) → labels_in b k ≡ []
 none_labels b rows others indexes k = elim (decided (is_own k)) [
-  | inl o ↦ ap (λ (z : Bool). if z then pred_labels b.rows.items b.others (pred_of k) (row_of (pred_of k)) else place_labels b.indexes.items k.value (number_of b.places (pred_of k) k.place)) o ∙ by_row (row_of (pred_of k))
-  | inr o ↦ ap (λ (z : Bool). if z then pred_labels b.rows.items b.others (pred_of k) (row_of (pred_of k)) else place_labels b.indexes.items k.value (number_of b.places (pred_of k) k.place)) o ∙ by_place (number_of b.places (pred_of k) k.place)
+  | inl o ↦ ap (λ (z : Bool). if z then pred_labels b.rows b.others (pred_of k) (row_of (pred_of k)) else place_labels b.indexes.items k.value (number_of b.places (pred_of k) k.place)) o ∙ by_row (row_of (pred_of k))
+  | inr o ↦ ap (λ (z : Bool). if z then pred_labels b.rows b.others (pred_of k) (row_of (pred_of k)) else place_labels b.indexes.items k.value (number_of b.places (pred_of k) k.place)) o ∙ by_place (number_of b.places (pred_of k) k.place)
 ]
   where
     no_others : (few word : Bool) → (if few then (if word then labels_of b.others (index_key (other_key (pred_of k))) else []) else []) ≡ []
@@ -264,7 +264,7 @@ none_labels b rows others indexes k = elim (decided (is_own k)) [
     no_others true false = refl
     no_others false word = refl
 
-    by_row : (r : Option ℕ) → pred_labels b.rows.items b.others (pred_of k) r ≡ []
+    by_row : (r : Option ℕ) → pred_labels b.rows b.others (pred_of k) r ≡ []
     by_row None = no_others (nat_lt (pred_of k).arity 256) (is_word (other_key (pred_of k)))
     by_row (Some r) = ap (λ (z : List (List ℕ)). row_at z r) rows
 
@@ -272,24 +272,24 @@ none_labels b rows others indexes k = elim (decided (is_own k)) [
     by_place None = refl
     by_place (Some n) = ap (λ (z : List Indexed). index_at z n k.value) indexes
 
-module _ {A : Type 0} (old new : Buckets A) (places : new.places ≡ old.places) (rows : new.rows.items ≡ old.rows.items) where
+module _ {A : Type 0} (old new : Buckets A) (places : new.places ≡ old.places) (rows : new.rows ≡ old.rows) where
   labels_new : (k : Key) → (os : (p : Pred) → other_labels new.others p ≡ other_labels old.others p) → is_own k ≡ true → labels_in new k ≡ labels_in old k
   labels_new k os o =
-      ap (λ (b : Bool). if b then pred_labels new.rows.items new.others (pred_of k) (row_of (pred_of k)) else place_labels new.indexes.items k.value (number_of new.places (pred_of k) k.place)) o
-      ∙ by_row (row_of (pred_of k)) ∙ sym (ap (λ (b : Bool). if b then pred_labels old.rows.items old.others (pred_of k) (row_of (pred_of k)) else place_labels old.indexes.items k.value (number_of old.places (pred_of k) k.place)) o)
+      ap (λ (b : Bool). if b then pred_labels new.rows new.others (pred_of k) (row_of (pred_of k)) else place_labels new.indexes.items k.value (number_of new.places (pred_of k) k.place)) o
+      ∙ by_row (row_of (pred_of k)) ∙ sym (ap (λ (b : Bool). if b then pred_labels old.rows old.others (pred_of k) (row_of (pred_of k)) else place_labels old.indexes.items k.value (number_of old.places (pred_of k) k.place)) o)
     where
-      by_row : (r : Option ℕ) → pred_labels new.rows.items new.others (pred_of k) r ≡ pred_labels old.rows.items old.others (pred_of k) r
+      by_row : (r : Option ℕ) → pred_labels new.rows new.others (pred_of k) r ≡ pred_labels old.rows old.others (pred_of k) r
       by_row None = os (pred_of k)
       by_row (Some r) = ap (λ (z : List (List ℕ)). row_at z r) rows
 
   at_place_new : (k : Key) → is_own k ≡ false → labels_in new k ≡ place_labels new.indexes.items k.value (number_of old.places (pred_of k) k.place)
   at_place_new k o =
-      ap (λ (b : Bool). if b then pred_labels new.rows.items new.others (pred_of k) (row_of (pred_of k)) else place_labels new.indexes.items k.value (number_of new.places (pred_of k) k.place)) o
+      ap (λ (b : Bool). if b then pred_labels new.rows new.others (pred_of k) (row_of (pred_of k)) else place_labels new.indexes.items k.value (number_of new.places (pred_of k) k.place)) o
       ∙ ap (λ (z : Places). place_labels new.indexes.items k.value (number_of z (pred_of k) k.place)) places
 
   at_place_old : (k : Key) → is_own k ≡ false → labels_in old k ≡ place_labels old.indexes.items k.value (number_of old.places (pred_of k) k.place)
   at_place_old k o =
-      ap (λ (b : Bool). if b then pred_labels old.rows.items old.others (pred_of k) (row_of (pred_of k)) else place_labels old.indexes.items k.value (number_of old.places (pred_of k) k.place)) o
+      ap (λ (b : Bool). if b then pred_labels old.rows old.others (pred_of k) (row_of (pred_of k)) else place_labels old.indexes.items k.value (number_of old.places (pred_of k) k.place)) o
 
   by_number : ((n : ℕ) (v : KeyValue) → index_at new.indexes.items n v ≡ index_at old.indexes.items n v) → (v : KeyValue) (o : Option ℕ) → place_labels new.indexes.items v o ≡ place_labels old.indexes.items v o
   by_number same v None = refl
@@ -307,9 +307,9 @@ module _ {A : Type 0} (old new : Buckets A) (places : new.places ≡ old.places)
       → (k : Key) → labels_in new k ≡ (if same_key (own_key pred) k then ms else labels_in old k)
   others_changed pred ms none set same k = elim (decided (is_own k)) [
     | inl o ↦
-        ap (λ (b : Bool). if b then pred_labels new.rows.items new.others (pred_of k) (row_of (pred_of k)) else place_labels new.indexes.items k.value (number_of new.places (pred_of k) k.place)) o
+        ap (λ (b : Bool). if b then pred_labels new.rows new.others (pred_of k) (row_of (pred_of k)) else place_labels new.indexes.items k.value (number_of new.places (pred_of k) k.place)) o
         ∙ by_row o (row_of (pred_of k)) refl
-        ∙ ap (λ (zs : List ℕ). if same_key (own_key pred) k then ms else zs) (sym (ap (λ (b : Bool). if b then pred_labels old.rows.items old.others (pred_of k) (row_of (pred_of k)) else place_labels old.indexes.items k.value (number_of old.places (pred_of k) k.place)) o))
+        ∙ ap (λ (zs : List ℕ). if same_key (own_key pred) k then ms else zs) (sym (ap (λ (b : Bool). if b then pred_labels old.rows old.others (pred_of k) (row_of (pred_of k)) else place_labels old.indexes.items k.value (number_of old.places (pred_of k) k.place)) o))
     | inr o ↦ at_place_new k o ∙ by_number same k.value (number_of old.places (pred_of k) k.place) ∙ sym (at_place_old k o) ∙ sym (ap (λ (b : Bool). if b then ms else labels_in old k) (elsewhere o))
   ]
     where
@@ -325,11 +325,11 @@ module _ {A : Type 0} (old new : Buckets A) (places : new.places ≡ old.places)
           let own = and_parts _ _ o in
           and_from _ _ (and_from _ _ h (eq-eqb _ _ (sym (eqb-true k.place 0 own.0)))) (ap (λ (v : KeyValue). same_value v k.value) (sym (same_value_true k.value _ own.1)) ∙ same_value_refl k.value)) (λ s. (and_parts _ _ (and_parts _ _ s).0).0)
 
-      by_row : is_own k ≡ true → (r : Option ℕ) → row_of (pred_of k) ≡ r → pred_labels new.rows.items new.others (pred_of k) r ≡ (if same_key (own_key pred) k then ms else pred_labels old.rows.items old.others (pred_of k) r)
+      by_row : is_own k ≡ true → (r : Option ℕ) → row_of (pred_of k) ≡ r → pred_labels new.rows new.others (pred_of k) r ≡ (if same_key (own_key pred) k then ms else pred_labels old.rows old.others (pred_of k) r)
       by_row o None e = set (pred_of k) ∙ ap (λ (b : Bool). if b then ms else other_labels old.others (pred_of k)) (own_one o)
       by_row o (Some r) e = ap (λ (z : List (List ℕ)). row_at z r) rows ∙ elim (decided (same_key (own_key pred) k)) [
         | inl s ↦ let z : None ≡ Some r = sym none ∙ ap (λ (y : Key). row_of (pred_of y)) (same_key_true (own_key pred) k s) ∙ e in absurd (cc)
-        | inr s ↦ sym (ap (λ (b : Bool). if b then ms else row_at old.rows.items r) s)
+        | inr s ↦ sym (ap (λ (b : Bool). if b then ms else row_at old.rows r) s)
       ]
 
   -- those of a key of a chosen place have

@@ -1,5 +1,5 @@
 -- The labels of each key, in a table and in indexes, and what there is under each.
-use Rattle.std.specs.Prelude.{◌≡◌, ℕ, zero, suc, ◌+◌, ◌*◌, ◌&&◌, if◌then◌else◌, Bool, List, [], ◌∷◌, Option, Some, None, nat_lt, slice_index_or}
+use Rattle.std.specs.Prelude.{◌≡◌, ℕ, zero, suc, ◌+◌, ◌*◌, ◌&&◌, if◌then◌else◌, Bool, List, [], ◌∷◌, Option, Some, None, nat_lt}
 use Rattle.chr_value.specs.Atoms.{Atom}
 use Rattle.chr_value.specs.Stores.{Store}
 use Rattle.chr_index.specs.declared.table.Key.{Key as IndexKey}
@@ -8,7 +8,7 @@ use Rattle.chr_value.specs.declared.atom.Pred.{Pred}
 use Rattle.chr_store.specs.KeyParts.{Key, KeyValue, Sym, value_of, kind_of, word_of}
 use Rattle.chr_store.specs.declared.buckets.Buckets.{Buckets}
 use Rattle.chr_store.specs.Index.{Places, chosen, fits, is_own, number_of, pred_of, same_value}
-use Rattle.chr_store.specs.Rows.{row_of}
+use Rattle.chr_store.specs.Rows.{row_of, row_at}
 
 -- the key of a value in the index of its place, and the labels there, where 64 bits can say it
 abbrev pub index_key : KeyValue → IndexKey
@@ -30,10 +30,6 @@ abbrev pub place_labels : List Indexed → KeyValue → Option ℕ → List ℕ
 place_labels indexes v None = []
 place_labels indexes v (Some n) = index_at indexes n v
 
--- the labels in a row of a table, past its end none
-abbrev pub row_at : List (List ℕ) → ℕ → List ℕ
-row_at rows i = slice_index_or rows i []
-
 -- the labels of a predicate that has no row
 abbrev pub other_key : Pred → KeyValue
 other_key pred = Sym (pred.name.number * 256 + pred.arity)
@@ -49,7 +45,7 @@ pred_labels rows others pred (Some row) = row_at rows row
 -- the labels under a key
 abbrev pub labels_in : {A : Type 0} → Buckets A → Key → List ℕ
 labels_in b k =
-    if is_own k then pred_labels b.rows.items b.others (pred_of k) (row_of (pred_of k))
+    if is_own k then pred_labels b.rows b.others (pred_of k) (row_of (pred_of k))
     else place_labels b.indexes.items k.value (number_of b.places (pred_of k) k.place)
 
 -- a key of the atom at a chosen place below n

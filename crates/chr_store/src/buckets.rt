@@ -5,12 +5,12 @@ ghost use Rattle.chr_value.specs.Stores.{greatest_label};
 ghost use Rattle.chr_index.specs.Buckets.{drop_number};
 ghost use Rattle.chr_store.specs.KeyParts.{Key, KeyValue};
 ghost use Rattle.chr_store.specs.Index.{chosen, is_pred, number_of, own_key, pred_of, same_key, same_value};
-ghost use Rattle.chr_store.specs.KeyLabels.{labels_in, row_at, index_at, other_labels, IsChanged};
+ghost use Rattle.chr_store.specs.Rows.{row_of, row_at};
+ghost use Rattle.chr_store.specs.KeyLabels.{labels_in, index_at, other_labels, IsChanged};
 
 use crate::chosen::Chosen;
 use crate::keys::{Key, key_at, other_key};
-use crate::labels::Labels;
-use crate::rows::row_of;
+use crate::rows::{Rows, row_of};
 use chr_index::{Index, Matches};
 use chr_value::{Atom, Label, Pred};
 use std::alloc::{AllocError, Allocator};
@@ -20,7 +20,7 @@ use std::alloc::{AllocError, Allocator};
 #[derive(Drop)]
 pub struct Buckets<A: Allocator> {
     pub places: Chosen<A>,
-    rows: Vec<Labels<A>, A>,
+    rows: Rows<A>,
     others: Index<A>,
     indexes: Vec<Index<A>, A>,
 }
@@ -33,7 +33,7 @@ impl<A: Allocator + Copy> Buckets<A> {
     {
         Buckets {
             places,
-            rows: Vec::new(alloc),
+            rows: Rows::new(alloc),
             others: Index::new(alloc),
             indexes: Vec::new(alloc),
         }
@@ -44,12 +44,21 @@ impl<A: Allocator + Copy> Buckets<A> {
     pub fn of_pred(&self, pred: Pred) -> Matches<'_>
         ensures { result ≡ labels_in self.now (own_key pred) }
     {
-        let Some(row) = row_of(pred) else {
-            return self.others.matches(other_key(pred));
-        };
-        match self.rows.get(row) {
-            None => Matches::none(),
+        match self.rows.get(pred) {
             Some(labels) => labels.matches(),
+            None => self.outside_table(pred),
+        }
+    }
+
+    /// The same where the table has no row of the predicate: it has no labels, or they are in the index of predicates.
+    #[inline(always)]
+    fn outside_table(&self, pred: Pred) -> Matches<'_>
+        requires { (row : ℕ) → row_of pred ≡ Some row → row_at self.now.rows row ≡ [] }
+        ensures { result ≡ labels_in self.now (own_key pred) }
+    {
+        match row_of(pred) {
+            None => self.others.matches(other_key(pred)),
+            Some(_) => Matches::none(),
         }
     }
 
@@ -65,42 +74,6 @@ impl<A: Allocator + Copy> Buckets<A> {
             None => Some(Matches::none()),
             Some(index) => Some(index.matches(key.in_index())),
         }
-    }
-}
-
-/// Makes the rows of a table up to one. E01 where that could not be.
-fn make_row<A: Allocator + Copy>(rows: &mut Vec<Labels<A>, A>, row: usize) -> Result<(), AllocError>
-    ensures same { (i : ℕ) → row_at rows.new.items i ≡ row_at rows.old.items i }
-    ensures made { OnOk result (row < length rows.new.items) }
-{
-    while rows.len() <= row {
-        rows.push(Labels::new())?;
-    }
-    Ok(())
-}
-
-/// Puts a label after those of a row. E01 where that could not grow: the labels are as before.
-fn put_in_row<A: Allocator + Copy>(
-    rows: &mut Vec<Labels<A>, A>,
-    alloc: A,
-    row: usize,
-    label: Label,
-) -> Result<(), AllocError>
-    requires below { AllByRecursion (λ m. m < label) (row_at rows.old.items row) }
-    requires fits { label ≤ greatest_label }
-    ensures ok { OnOk result ((i : ℕ) → row_at rows.new.items i ≡ (if nat_eq row i then row_at rows.old.items row ++ label ∷ [] else row_at rows.old.items i)) }
-    ensures unchanged { OnErr result ((i : ℕ) → row_at rows.new.items i ≡ row_at rows.old.items i) }
-{
-    make_row(rows, row)?;
-    rows[row].push(alloc, label)
-}
-
-/// Takes a label from those of a row.
-fn take_from_row<A: Allocator + Copy>(rows: &mut Vec<Labels<A>, A>, row: usize, label: Label)
-    ensures { (i : ℕ) → row_at rows.new.items i ≡ (if nat_eq row i then drop_number label (row_at rows.old.items row) else row_at rows.old.items i) }
-{
-    if row < rows.len() {
-        rows[row].remove(label);
     }
 }
 
@@ -190,7 +163,7 @@ fn put_own<A: Allocator + Copy>(
 {
     match row_of(pred) {
         None => put_in_others(&mut buckets.others, pred, label),
-        Some(row) => put_in_row(&mut buckets.rows, alloc, row, label),
+        Some(row) => buckets.rows.put(alloc, row, label),
     }
 }
 
@@ -202,7 +175,7 @@ fn take_own<A: Allocator + Copy>(buckets: &mut Buckets<A>, pred: Pred, label: La
 {
     match row_of(pred) {
         None => take_from_others(&mut buckets.others, pred, label),
-        Some(row) => take_from_row(&mut buckets.rows, row, label),
+        Some(row) => buckets.rows.take(row, label),
     }
 }
 
