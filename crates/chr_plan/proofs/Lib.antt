@@ -3,6 +3,7 @@ pub mod Next
 pub mod Fresh
 pub mod Planning
 pub mod Made
+pub mod Rows
 pub mod OnePlan
 pub mod Once
 pub mod Standing

@@ -7,9 +7,9 @@ use Rattle.chr_rule.specs.Rules.{RuleAtom}
 use Rattle.chr_rule.specs.Parts.{argument, shape}
 use Rattle.chr_rule.specs.declared.rule_atom.RuleAtom.{RuleAtom as CodeRuleAtom}
 use Rattle.chr_plan.specs.Orders.{is_known, key_in}
-use Rattle.chr_plan.specs.Plans.{PlanList, order_in, plan_at}
+use Rattle.chr_plan.specs.Plans.{PlanList, order_in, orders_at, plan_at}
 use Rattle.chr_plan.specs.declared.order.Step.{Step}
-use Rattle.std.proofs.lemmas.Option.{slice_get-map, slice_get_past, slice_get_read, slice_get_within, slice_get_cases}
+use Rattle.std.proofs.lemmas.Option.{slice_get-map, slice_get_past, slice_get_read, slice_get_cases}
 use Rattle.std.proofs.lemmas.List.{length-map}
 
 -- what `get` answers, read by a function
@@ -47,13 +47,22 @@ plan_there plans (suc r) zero orders o p q e f = absurd (omega arith)
 plan_there plans (suc r) (suc h) orders o p q e f =
     f ∙ ap (slice_get orders) (let z : suc h - 1 ≡ h = omega arith in z) ∙ ap (λ (z : Option (List (List Step))). order_in z (suc h)) (e ∙ ap (slice_get plans) (let z : suc r - 1 ≡ r = omega arith in z))
 
--- the same in the lists that hold the plans
-pub plan_got : {V O : Type 0} (rows : V → List O) (items : O → List Step) (xs slice : List V) (plans : PlanList) (v : V) (ys : List O) (r h k : ℕ) (o : Option (List Step)) → map (λ v. map items (rows v)) xs ≡ plans → slice ≡ xs → ys ≡ rows v → k ≡ h → 0 < r → 0 < h
-    → true ≡ ltb (r - 1) (length slice) → v ≡ slice_index_or slice (r - 1) v → o ≡ slice_get (map items ys) (k - 1) → o ≡ plan_at plans r h
-plan_got rows items xs slice plans v ys r h k o view same is num p q t e f =
-    plan_there plans r h (map items (rows v)) o p q
-    (got_some (λ v. map items (rows v)) slice (r - 1) v t e ∙ ap (λ z. slice_get (map (λ v. map items (rows v)) z) (r - 1)) same ∙ ap (λ (z : PlanList). slice_get z (r - 1)) view)
-    (f ∙ ap (λ z. slice_get (map items z) (k - 1)) is ∙ ap (λ n. slice_get (map items (rows v)) (n - 1)) num)
+-- there is none at the number 0, and past the last rule
+pub none_of_rule : (plans : PlanList) (r h : ℕ) → r ≡ 0 → None ≡ plan_at plans r h
+none_of_rule plans zero h e = refl
+none_of_rule plans (suc r) h e = absurd (omega arith)
+
+pub none_of_head : (plans : PlanList) (r h : ℕ) → h ≡ 0 → None ≡ plan_at plans r h
+none_of_head plans r zero e = by_orders (orders_at plans r)
+  where
+    by_orders : (o : Option (List (List Step))) → None ≡ order_in o zero
+    by_orders None = refl
+    by_orders (Some orders) = refl
+none_of_head plans r (suc h) e = absurd (omega arith)
+
+pub none_past : (plans : PlanList) (r h : ℕ) → length plans < r → None ≡ plan_at plans r h
+none_past plans zero h u = refl
+none_past plans (suc r) h u = ap (λ (o : Option (List (List Step))). order_in o h) (sym (slice_get_past plans r (omega arith)))
 
 -- a rule and a head that have a plan, by what holds the plans of the rule
 order_some : (orders : Option (List (List Step))) (h : ℕ) → IsSome (order_in orders h) → (found : List (List Step)) × (orders ≡ Some found) × (0 < h) × (h - 1 < length found)
@@ -61,27 +70,9 @@ order_some None h s = cc
 order_some (Some found) zero s = cc
 order_some (Some found) (suc h) s = (found, refl, omega arith, grind (arith, slice_get_cases found h))
 
-plan_some : (plans : PlanList) (r h : ℕ) → IsSome (plan_at plans r h) → (found : List (List Step)) × (0 < r) × (slice_get plans (r - 1) ≡ Some found) × (0 < h) × (h - 1 < length found)
+pub plan_some : (plans : PlanList) (r h : ℕ) → IsSome (plan_at plans r h) → (found : List (List Step)) × (0 < r) × (slice_get plans (r - 1) ≡ Some found) × (0 < h) × (h - 1 < length found)
 plan_some plans zero h s = cc
 plan_some plans (suc r) h s = let o = order_some (slice_get plans r) h s in (o.0, omega arith, grind (arith, o.1), o.2, o.3)
-
-module _ {V O : Type 0} (rows : V → List O) (items : O → List Step) (xs : List V) (plans : PlanList) (view : map (λ v. map items (rows v)) xs ≡ plans) (r h : ℕ) (there : IsSome (plan_at plans r h)) (v : V) (k : ℕ) (num : k ≡ r) (is : v ≡ slice_index_or xs (k - 1) v) where
-  row_there : Some (map items (rows v)) ≡ slice_get plans (r - 1)
-  row_there =
-      let o = plan_some plans r h there in
-      let within : k - 1 < length xs = omega (arith, num, slice_get_within plans (r - 1) o.0 o.2, ap length view, length-map xs (λ v. map items (rows v))) in
-      got_at (λ v. map items (rows v)) xs (k - 1) v within is ∙ ap (λ (z : PlanList). slice_get z (k - 1)) view ∙ ap (λ n. slice_get plans (n - 1)) num
-
-  -- the rule's list has the head's plan, and that is the plan
-  pub plan_within : h - 1 < length (rows v)
-  plan_within = let o = plan_some plans r h there in let same : map items (rows v) ≡ o.0 = grind (arith, row_there, o.2) in omega (arith, o.4, ap length same, length-map (rows v) items)
-
-  pub plan_read : (j : ℕ) (order : O) (steps : List Step) → j ≡ h → order ≡ slice_index_or (rows v) (j - 1) order → steps ≡ items order → Some steps ≡ plan_at plans r h
-  plan_read j order steps number e same =
-      let o = plan_some plans r h there in
-      let within : j - 1 < length (rows v) = omega (arith, number, plan_within) in
-      plan_there plans r h (map items (rows v)) (Some steps) o.1 o.3 row_there
-      (ap (λ (s : List Step). Some s) same ∙ got_at items (rows v) (j - 1) order within e ∙ ap (λ n. slice_get (map items (rows v)) (n - 1)) number)
 
 pub nothing : (n x : ℕ) → slice_index_or (replicate n false) x false ≡ false
 nothing zero x = refl

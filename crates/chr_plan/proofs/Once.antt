@@ -1,8 +1,9 @@
 -- The places that plans look up, one at a time.
 use Rattle.std.proofs.lemmas.List.{append-nil, take_all, get_or-map, length-map}
+use Rattle.std.proofs.lemmas.Option.{get_or_from_slice_get, slice_get_within}
 use Rattle.std.proofs.lemmas.List.Elements.{filter-append}
 use Rattle.std.proofs.lemmas.Bool.Decides.{nat_tests}
-use Rattle.std.proofs.Common.{◌≡◌, ℕ, zero, suc, ◌+◌, ◌<◌, ◌≤◌, Bool, true, false, not, if◌then◌else◌, List, [], ◌∷◌, ◌++◌, length, map, take, refl, sym, ap, subst, ◌∙◌, arith, append_assoc, add-one, get_or, ◌⊎◌, inl, inr}
+use Rattle.std.proofs.Common.{◌≡◌, ℕ, zero, suc, ◌+◌, ◌<◌, ◌≤◌, Bool, true, false, not, if◌then◌else◌, List, [], ◌∷◌, ◌++◌, length, map, take, Some, slice_get, refl, sym, ap, subst, ◌∙◌, arith, append_assoc, add-one, get_or, ◌⊎◌, inl, inr}
 use Rattle.std.specs.List.{list_any, filter}
 use Rattle.chr_rule.specs.Rules.{Simpagation}
 use Rattle.chr_plan.specs.Orders.{heads_of}
@@ -93,13 +94,13 @@ keys_all (rule ∷ rules) [] (suc i) u = refl
 keys_all (rule ∷ rules) (orders ∷ plans) zero u = grind arith
 keys_all (rule ∷ rules) (orders ∷ plans) (suc i) u = ap (λ (z : List Place). for_each (order_places (heads_of rule)) orders ++ z) (keys_all rules plans i (grind arith))
 
--- the same in the lists that hold rules and plans
-pub places_next : {R V : Type 0} (f : R → Simpagation ℕ) (g : V → List (List Step)) (rs : List R) (vs : List V) (rules : List (Simpagation ℕ)) (plans : PlanList) (i : ℕ) (r : R) (v : V) (rule : Simpagation ℕ) (orders : List (List Step)) (cur new : List Place) → map f rs ≡ rules → map g vs ≡ plans → i < length rs → i < length vs → rule ≡ f (get_or rs i r) → orders ≡ g (get_or vs i v) → cur ≡ once (keys_met (take i rules) (take i plans)) → Added (for_each (order_places (heads_of rule)) orders) cur new → new ≡ once (keys_met (take (i + 1) rules) (take (i + 1) plans))
-places_next f g rs vs rules plans i r v rule orders cur new e d u w x y h k =
-    rules_next rules plans i (f r) (g v) cur new (let a : length rules ≡ length rs = sym (ap length e) ∙ length-map rs f in omega arith) (let a : length plans ≡ length vs = sym (ap length d) ∙ length-map vs g in omega arith) h
-    (subst (λ (z : List (List Step)). Added (for_each (order_places (heads_of (get_or rules i (f r)))) z) cur new) (y ∙ sym (get_or-map g vs i v (g v) w) ∙ ap (λ (z : PlanList). get_or z i (g v)) d)
+-- the same in the list that holds rules
+pub places_next : {R : Type 0} (f : R → Simpagation ℕ) (rs : List R) (rules : List (Simpagation ℕ)) (plans : PlanList) (i : ℕ) (r : R) (rule : Simpagation ℕ) (orders : List (List Step)) (cur new : List Place) → map f rs ≡ rules → i < length rs → rule ≡ f (get_or rs i r) → Some orders ≡ slice_get plans i → cur ≡ once (keys_met (take i rules) (take i plans)) → Added (for_each (order_places (heads_of rule)) orders) cur new → new ≡ once (keys_met (take (i + 1) rules) (take (i + 1) plans))
+places_next f rs rules plans i r rule orders cur new e u x y h k =
+    rules_next rules plans i (f r) orders cur new (let a : length rules ≡ length rs = sym (ap length e) ∙ length-map rs f in omega arith) (slice_get_within plans i orders (sym y)) h
+    (subst (λ (z : List (List Step)). Added (for_each (order_places (heads_of (get_or rules i (f r)))) z) cur new) (sym (get_or_from_slice_get plans i orders orders (sym y)))
     (subst (λ (z : Simpagation ℕ). Added (for_each (order_places (heads_of z)) orders) cur new) (x ∙ sym (get_or-map f rs i r (f r) u) ∙ ap (λ (z : List (Simpagation ℕ)). get_or z i (f r)) e) k))
 
-pub places_end : {R V : Type 0} (f : R → Simpagation ℕ) (g : V → List (List Step)) (rs : List R) (vs : List V) (rules : List (Simpagation ℕ)) (plans : PlanList) (i : ℕ) (cur : List Place) → map f rs ≡ rules → map g vs ≡ plans → (length rs ≤ i) ⊎ (length vs ≤ i) → cur ≡ once (keys_met (take i rules) (take i plans)) → cur ≡ once (keys_met rules plans)
-places_end f g rs vs rules plans i cur e d (inl u) h = h ∙ ap once (keys_all rules plans i (inl (let a : length rules ≡ length rs = sym (ap length e) ∙ length-map rs f in omega arith)))
-places_end f g rs vs rules plans i cur e d (inr u) h = h ∙ ap once (keys_all rules plans i (inr (let a : length plans ≡ length vs = sym (ap length d) ∙ length-map vs g in omega arith)))
+pub places_end : {R : Type 0} (f : R → Simpagation ℕ) (rs : List R) (rules : List (Simpagation ℕ)) (plans : PlanList) (i : ℕ) (cur : List Place) → map f rs ≡ rules → (length rs ≤ i) ⊎ (length plans ≤ i) → cur ≡ once (keys_met (take i rules) (take i plans)) → cur ≡ once (keys_met rules plans)
+places_end f rs rules plans i cur e (inl u) h = h ∙ ap once (keys_all rules plans i (inl (let a : length rules ≡ length rs = sym (ap length e) ∙ length-map rs f in omega arith)))
+places_end f rs rules plans i cur e (inr u) h = h ∙ ap once (keys_all rules plans i (inr u))

@@ -1,6 +1,10 @@
-use Rattle.std.proofs.Common.{map}
+use Rattle.std.proofs.Common.{length, map}
+use Rattle.chr_plan.specs.Plans.{AreRows, in_rows}
 use Rattle.chr_plan.proofs.Made.{PlansSoFar}
 use Rattle.chr_plan.proofs.plans.Plans.make.Given as goal
 
 abbrev pub invariant-loop-rule : goal.invariant-loop-rule
-invariant-loop-rule g l = PlansSoFar l.program l.rule-index (map (λ orders. map (λ order. order.items) orders.items) l.rules.items)
+invariant-loop-rule g l = record {
+  rows : AreRows l.counts.items (length l.orders.items);
+  plans : PlansSoFar l.program l.rule-index (in_rows l.counts.items (map (λ order. order.items) l.orders.items));
+}
