@@ -24,9 +24,9 @@ use Rattle.chr_search.specs.declared.search.Instance.{Instance}
 use Rattle.chr_search.specs.declared.search.Passed.{Passed}
 use Rattle.chr_search.specs.Reach.{SearchState}
 use Rattle.chr_search.specs.Judged.{Judgement}
-use Rattle.chr_search.specs.declared.search.Whole.{Whole}
 use Rattle.chr_search.specs.declared.search.Then.{Then}
 use Rattle.chr_search.specs.Positions.{beginning}
+use Rattle.chr_search.specs.Wholes.{WholeTrial}
 use Rattle.chr_search.specs.declared.judged.Verdict.TheVariants as verdicts
 use Rattle.chr_search.specs.declared.search.Then.TheVariants as thens
 use Rattle.chr_calls.specs.Turns.{Next, Done}
@@ -138,8 +138,8 @@ dropped_rounds b seat t k l place now tickets log past none ts es = record {
 
 -- ---- a firing
 
-fires_last : (b : BookState) (seat t l : ℕ) (place : List ℕ) (rule : Simpagation ℕ) (w : Whole) (binding : List (Option (Value ℕ))) (f : Fired) (log : List (Entry ℕ)) (tickets : List Ticket) → IsKept b → HoldsLive b seat t l → (ticket_at b.tickets t).position ≡ place → IsWholeNext (space_of b l) place w binding → rule_at b.rules w.number ≡ Some rule → FiresWhole seat t rule w binding f b.tickets b.log tickets log
-    → FiresTrial seat t b (with_fired b log w.removed.items tickets)
+fires_last : (b : BookState) (seat t l : ℕ) (place : List ℕ) (rule : Simpagation ℕ) (w : WholeTrial) (binding : List (Option (Value ℕ))) (f : Fired) (log : List (Entry ℕ)) (tickets : List Ticket) → IsKept b → HoldsLive b seat t l → (ticket_at b.tickets t).position ≡ place → IsWholeNext (space_of b l) place w binding → rule_at b.rules w.number ≡ Some rule → FiresWhole seat t rule w binding f b.tickets b.log tickets log
+    → FiresTrial seat t b (with_fired b log w.removed tickets)
 fires_last b seat t l place rule w binding f log tickets k h is next of fw =
     let j : Judgement = record { trial = next.trial; verdict = verdicts.Whole } in
     let comes : ComesNext b seat t next.trial = record { label = l; holds = h; is = record { next = subst (λ p. IsNext (space_of b l) p (position next.trial)) (sym is) next.next; is = next.is; formed = next.formed } } in
@@ -150,11 +150,11 @@ fires_last b seat t l place rule w binding f log tickets k h is next of fw =
       asked = with_candidate_of b t (Some next.trial);
       turns = next_turned b seat t next.trial comes;
       fired = f;
-      fires = next_fires b (with_fired b log w.removed.items tickets) seat t j f comes refl (fires_there b seat t l j rule w binding f log tickets k (inr comes) (next_is_live b seat t next.trial comes) h.holds.goal whole fw);
+      fires = next_fires b (with_fired b log w.removed tickets) seat t j f comes refl (fires_there b seat t l j rule w binding f log tickets k (inr comes) (next_is_live b seat t next.trial comes) h.holds.goal whole fw);
     }
 
-pub fired_rounds : (b : BookState) (seat t k l : ℕ) (place : List ℕ) (rule : Simpagation ℕ) (w : Whole) (binding : List (Option (Value ℕ))) (f : Fired) (now tickets : List Ticket) (log : List (Entry ℕ)) → IsKept b → IsPast b seat t k l place now → IsWholeNext (space_of b l) place w binding → rule_at b.rules w.number ≡ Some rule → FiresWhole seat t rule w binding f now b.log tickets log
-    → MakesRounds seat t (record { passed = k; last = lasts.Fired }) b (with_fired b log w.removed.items tickets)
+pub fired_rounds : (b : BookState) (seat t k l : ℕ) (place : List ℕ) (rule : Simpagation ℕ) (w : WholeTrial) (binding : List (Option (Value ℕ))) (f : Fired) (now tickets : List Ticket) (log : List (Entry ℕ)) → IsKept b → IsPast b seat t k l place now → IsWholeNext (space_of b l) place w binding → rule_at b.rules w.number ≡ Some rule → FiresWhole seat t rule w binding f now b.log tickets log
+    → MakesRounds seat t (record { passed = k; last = lasts.Fired }) b (with_fired b log w.removed tickets)
 fired_rounds b seat t k l place rule w binding f now tickets log kept past next of fw =
     let middle : BookState = with_tickets b now in
     record { middle = middle; passes = past.passes; last = fires_last middle seat t l place rule w binding f log tickets (passes_keep k b middle seat t past.passes kept) past.live past.at next of fw }
@@ -208,7 +208,7 @@ gone_alike : (lives : Bool) (q : List ℕ) (x y : Ticket) → going_on q x ≡ g
 gone_alike true q x y e = e
 gone_alike false q x y e = refl
 
-ends_there : (seat t : ℕ) (come : Then) (w : Whole) (last : Last) (ts : List Ticket) (x : Ticket) (log : List (Entry ℕ)) (st : LabelledStore) (new : List Ticket) (entries : List (Entry ℕ)) (after : LabelledStore) → t < length ts → ((q : List ℕ) → going_on q (ticket_at ts t) ≡ going_on q x) → (come ≡ thens.More → ticket_at ts t ≡ x)
+ends_there : (seat t : ℕ) (come : Then) (w : WholeTrial) (last : Last) (ts : List Ticket) (x : Ticket) (log : List (Entry ℕ)) (st : LabelledStore) (new : List Ticket) (entries : List (Entry ℕ)) (after : LabelledStore) → t < length ts → ((q : List ℕ) → going_on q (ticket_at ts t) ≡ going_on q x) → (come ≡ thens.More → ticket_at ts t ≡ x)
     → EndsRounds seat t come w last ts log st new entries after → EndsRounds seat t come w last (slice_set ts t x) log st new entries after
 ends_there seat t thens.More w last ts x log st new entries after within alike same h = (h.0, h.1 ∙ sym (ap (slice_set ts t) (sym (same refl)) ∙ set-get_or ts t ended), h.2, h.3)
 ends_there seat t thens.Done w last ts x log st new entries after within alike same h = (h.0, h.1 ∙ sym (set-set ts t x ended), h.2, h.3)
@@ -245,13 +245,13 @@ is_made s ts pushed t come i within found =
       past = ap (λ (xs : List Ticket). slice_set xs t x) found.tickets ∙ set-append_left now found.more t x within_now ∙ ap (λ (xs : List Ticket). xs ++ found.more) (set-set ts t found.x x);
     }
 
-pub whole_goal : (b : BookState) (pushed : List Ticket) (seat t l : ℕ) (come : Passed) (i : Instance) (w : Whole) → HoldsLive b seat t l → PassesMaking (space_of b l) t come i b.tickets pushed → w ≡ i.whole → come.then ≡ thens.Whole → (ticket_at pushed t).goal ≡ Numbered w.past.label
+pub whole_goal : (b : BookState) (pushed : List Ticket) (seat t l : ℕ) (come : Passed) (i : Instance) (w : WholeTrial) → HoldsLive b seat t l → PassesMaking (space_of b l) t come i b.tickets pushed → w ≡ i.whole → come.then ≡ thens.Whole → (ticket_at pushed t).goal ≡ Numbered w.past.label
 whole_goal b pushed seat t l come i w h found same is =
     ap (λ (x : Ticket). x.goal) (is_made (space_of b l) b.tickets pushed t come i (numbered_within b.tickets t l h.holds.goal) found).there
     ∙ ap (λ (x : Ticket). x.goal) (going_alike come.then come.count found.over.place [] (ticket_at b.tickets t)) ∙ h.holds.goal
-    ∙ ap Numbered (sym (finds (space_of b l) found.over.place come.then i found.binding found.over.next is).1 ∙ ap (λ (v : Whole). v.past.label) (sym same))
+    ∙ ap Numbered (sym (finds (space_of b l) found.over.place come.then i found.binding found.over.next is).1 ∙ ap (λ (v : WholeTrial). v.past.label) (sym same))
 
-pub makes_rounds : (rules : List (Simpagation ℕ)) (plans : PlanList) (names : List (List ℕ)) (log entries : List (Entry ℕ)) (st left : LabelledStore) (ts pushed tickets : List Ticket) (seat t l : ℕ) (come : Passed) (i : Instance) (w : Whole) (last : Last)
+pub makes_rounds : (rules : List (Simpagation ℕ)) (plans : PlanList) (names : List (List ℕ)) (log entries : List (Entry ℕ)) (st left : LabelledStore) (ts pushed tickets : List Ticket) (seat t l : ℕ) (come : Passed) (i : Instance) (w : WholeTrial) (last : Last)
     → IsKept (book_of rules plans names log st ts) → HoldsLive (book_of rules plans names log st ts) seat t l → PassesMaking (space_of (book_of rules plans names log st ts) l) t come i ts pushed → w ≡ i.whole → EndsRounds seat t come.then w last pushed log st tickets entries left
     → MakesRounds seat t (record { passed = come.count; last = last }) (book_of rules plans names log st ts) (book_of rules plans names entries left tickets)
 makes_rounds rules plans names log entries st left ts pushed tickets seat t l come i w last kept h found same ends =
@@ -265,7 +265,7 @@ makes_rounds rules plans names log entries st left ts pushed tickets seat t l co
     (ends_there seat t come.then i.whole last pushed x log st tickets entries left made.within
     (λ q. ap (going_on q) made.there ∙ going_alike come.then come.count place q y ∙ sym (going_alike thens.More come.count place q y))
     (λ is. made.there ∙ ap (λ (c : Then). gone_over c come.count place y) is)
-    (subst (λ (v : Whole). EndsRounds seat t come.then v last pushed log st tickets entries left) same ends))
+    (subst (λ (v : WholeTrial). EndsRounds seat t come.then v last pushed log st tickets entries left) same ends))
 
 -- where the tickets of the body are taken back
 pub cut_rounds : (rules : List (Simpagation ℕ)) (plans : PlanList) (names : List (List ℕ)) (log entries : List (Entry ℕ)) (st left : LabelledStore) (ts pushed same cut : List Ticket) (seat t l first most : ℕ) (come : Passed) (i : Instance)
@@ -366,7 +366,7 @@ entered_label {seat} {t} {place} {a} {ts} {now} {log} {es} {st} {store} h waits 
     ap (λ (xs : List Ticket). (ticket_at xs t).goal) h.tickets ∙ ap (λ (x : Ticket). x.goal) (ticket_same ts t (going_on place (activated_by seat st.next)) (waiting_is ts t waits).within)
 
 -- a goal that is dropped as it enters has entered, and then its rounds have ended
-pub drops_entered : (seat t : ℕ) (place : List ℕ) (a : Atom ℕ) (w : Whole) (ts : List Ticket) (log : List (Entry ℕ)) (st : LabelledStore) (new : List Ticket) (entries : List (Entry ℕ)) (after : LabelledStore) → DropsWaiting seat t a ts log st new entries after → EndsStart seat t place a thens.Done w lasts.Dropped ts log st new entries after
+pub drops_entered : (seat t : ℕ) (place : List ℕ) (a : Atom ℕ) (w : WholeTrial) (ts : List Ticket) (log : List (Entry ℕ)) (st : LabelledStore) (new : List Ticket) (entries : List (Entry ℕ)) (after : LabelledStore) → DropsWaiting seat t a ts log st new entries after → EndsStart seat t place a thens.Done w lasts.Dropped ts log st new entries after
 drops_entered seat t place a w ts log st new entries after h =
     let x : Ticket = going_on place (activated_by seat st.next) in
     let activation : List (Entry ℕ) = record { event = Activate t st.next; seat = seat } ∷ [] in
@@ -489,12 +489,12 @@ others_out ls i absent st new old within is none left = (
 )
 
 -- a firing of a ticket that is gone on, under the label of its search, which is removed
-fires_gone_on : (seat t l : ℕ) (rule : Simpagation ℕ) (i : Instance) (binding : List (Option (Value ℕ))) (place : List ℕ) (a : Atom ℕ) (ts lent_ts more pushed : List Ticket) (log : List (Entry ℕ)) (st : LabelledStore) (new : List Ticket) (entries : List (Entry ℕ)) (after : LabelledStore) → i.whole.past.label ≡ l → among i.whole.removed.items i.whole.past.label ≡ true
+fires_gone_on : (seat t l : ℕ) (rule : Simpagation ℕ) (i : Instance) (binding : List (Option (Value ℕ))) (place : List ℕ) (a : Atom ℕ) (ts lent_ts more pushed : List Ticket) (log : List (Entry ℕ)) (st : LabelledStore) (new : List Ticket) (entries : List (Entry ℕ)) (after : LabelledStore) → i.whole.past.label ≡ l → among i.whole.removed i.whole.past.label ≡ true
     → IsLent ts lent_ts t a → MakesBody rule.body binding more → pushed ≡ lent_ts ++ more → FiresWaiting seat t i.whole pushed log st new entries after
     → FiresWhole seat t rule i.whole binding (record { first = length ts; count = length more; active_lives = false }) (slice_set ts t (going_on place (activated_by seat l))) (log ++ record { event = Activate t l; seat = seat } ∷ []) new entries
 fires_gone_on seat t l rule i binding place a ts lent_ts more pushed log st new entries after label own out makes e h =
     let x : Ticket = going_on place (activated_by seat l) in
-    let entry : Entry ℕ = record { event = Fire t i.whole.number i.whole.kept.items i.whole.removed.items; seat = seat } in
+    let entry : Entry ℕ = record { event = Fire t i.whole.number i.whole.kept i.whole.removed; seat = seat } in
     record {
       first = sym (length-set ts t x);
       lives = ap not (sym own);
@@ -508,7 +508,7 @@ fires_gone_on seat t l rule i binding place a ts lent_ts more pushed log st new 
 -- they end where what was found has fired
 fires_rounds : (rules : List (Simpagation ℕ)) (plans : PlanList) (names : List (List ℕ)) (log entries : List (Entry ℕ)) (st after : LabelledStore) (ts lent_ts more pushed new : List Ticket) (seat t k : ℕ) (a : Atom ℕ) (place : List ℕ) (i : Instance) (binding : List (Option (Value ℕ))) → IsReady (book_of rules plans names log st ts) t a
     → IsLent ts lent_ts t a → Passes (space_of (activated (book_of rules plans names log st ts) seat t a) st.next) k beginning place → IsWholeNext (space_of (activated (book_of rules plans names log st ts) seat t a) st.next) place i.whole binding → MakesFound rules thens.Whole i.whole binding more → pushed ≡ lent_ts ++ more
-    → among i.whole.removed.items i.whole.past.label ≡ true → FiresWaiting seat t i.whole pushed log st new entries after
+    → among i.whole.removed i.whole.past.label ≡ true → FiresWaiting seat t i.whole pushed log st new entries after
     → MakesRounds seat t (record { passed = k; last = lasts.Fired }) (activated (book_of rules plans names log st ts) seat t a) (book_of rules plans names entries after new)
 fires_rounds rules plans names log entries st after ts lent_ts more pushed new seat t k a place i binding h out p next made e own f =
     let b : BookState = book_of rules plans names log st ts in
@@ -516,7 +516,7 @@ fires_rounds rules plans names log entries st after ts lent_ts more pushed new s
     let label : i.whole.past.label ≡ st.next = next.label_is in
     let now : List Ticket = slice_set ts t (going_on place (activated_by seat st.next)) in
     subst (λ (z : LabelledStore). MakesRounds seat t (record { passed = k; last = lasts.Fired }) claim (book_of rules plans names entries z new))
-    (ap (λ (z : Store). record { entries = z; next = st.next + 1; limit = st.limit }) (without_entered i.whole.removed.items st.entries st.next a (ap (among i.whole.removed.items) (sym label) ∙ own)) ∙ sym f.store)
+    (ap (λ (z : Store). record { entries = z; next = st.next + 1; limit = st.limit }) (without_entered i.whole.removed st.entries st.next a (ap (among i.whole.removed) (sym label) ∙ own)) ∙ sym f.store)
     (fired_rounds claim seat t k st.next place made.0 i.whole binding (record { first = length ts; count = length more; active_lives = false }) now new entries (claimed_kept b seat t a h) (claimed_past b seat t k a place h p) next made.1
     (fires_gone_on seat t st.next made.0 i binding place a ts lent_ts more pushed log st new entries after label own out made.2 e f))
 
@@ -530,7 +530,7 @@ start_makes rules plans names log entries st after ts lent_ts more pushed new se
     enters_rounds rules plans names log es entries st store after ts lent_ts more pushed now new seat t come.count a over.after here come.then i binding last h out over.passes over.next over.stands made e g ends
 
 -- the claim and the rounds
-pub started : (rules : List (Simpagation ℕ)) (plans : PlanList) (names : List (List ℕ)) (log entries : List (Entry ℕ)) (st after : LabelledStore) (ts lent_ts pushed new : List Ticket) (seat t : ℕ) (a : Atom ℕ) (search : SearchState) (here : List ℕ) (come : Passed) (i : Instance) (w : Whole) (last : Last) → IsReady (book_of rules plans names log st ts) t a → IsLent ts lent_ts t a
+pub started : (rules : List (Simpagation ℕ)) (plans : PlanList) (names : List (List ℕ)) (log entries : List (Entry ℕ)) (st after : LabelledStore) (ts lent_ts pushed new : List Ticket) (seat t : ℕ) (a : Atom ℕ) (search : SearchState) (here : List ℕ) (come : Passed) (i : Instance) (w : WholeTrial) (last : Last) → IsReady (book_of rules plans names log st ts) t a → IsLent ts lent_ts t a
     → search ≡ record { label = st.next; place = beginning } → PassesBefore (older rules plans (st.entries ++ (st.next, a) ∷ []) search.label) come i search.place here lent_ts pushed → w ≡ i.whole → EndsStart seat t here a come.then w last pushed log st new entries after
     → StartsRounds seat t (record { passed = come.count; last = last }) (book_of rules plans names log st ts) (book_of rules plans names entries after new)
 started rules plans names log entries st after ts lent_ts pushed new seat t a search here come i w last h out begun found same ends =
@@ -539,7 +539,7 @@ started rules plans names log entries st after ts lent_ts pushed new seat t a se
       claimed = activated (book_of rules plans names log st ts) seat t a;
       claims = claimed (book_of rules plans names log st ts) seat t a h;
       makes = start_makes rules plans names log entries st after ts lent_ts p.more pushed new seat t a here come i p.binding last h out p.over p.made p.tickets
-          (subst (λ (v : Whole). EndsStart seat t here a come.then v last pushed log st new entries after) same ends);
+          (subst (λ (v : WholeTrial). EndsStart seat t here a come.then v last pushed log st new entries after) same ends);
     }
 
 -- a ticket that is activated doesn't wait
@@ -589,12 +589,12 @@ starts_fewer_keep seat t most b n (inr h) kept = fewer_keep seat t most h.claime
 
 -- ---- the limit of the labels, and that there are perhaps more trials where the last of the rounds passed over one
 
-pub ends_show : (seat t : ℕ) (come : Then) (w : Whole) (last : Last) (ts : List Ticket) (log : List (Entry ℕ)) (st : LabelledStore) (new : List Ticket) (entries : List (Entry ℕ)) (after : LabelledStore) → EndsRounds seat t come w last ts log st new entries after → (after.limit ≡ st.limit) × (last ≡ lasts.Passed → come ≡ thens.More)
+pub ends_show : (seat t : ℕ) (come : Then) (w : WholeTrial) (last : Last) (ts : List Ticket) (log : List (Entry ℕ)) (st : LabelledStore) (new : List Ticket) (entries : List (Entry ℕ)) (after : LabelledStore) → EndsRounds seat t come w last ts log st new entries after → (after.limit ≡ st.limit) × (last ≡ lasts.Passed → come ≡ thens.More)
 ends_show seat t thens.More w last ts log st new entries after h = (ap (λ (z : LabelledStore). z.limit) h.3, λ e. refl)
 ends_show seat t thens.Done w last ts log st new entries after h = (ap (λ (z : LabelledStore). z.limit) h.3, λ e. let d : last ≡ lasts.Dropped = h.0 in absurd (cc))
 ends_show seat t thens.Whole w last ts log st new entries after h = (ap (λ (z : LabelledStore). z.limit) h.1.store, λ e. let f : last ≡ lasts.Fired = h.0 in absurd (cc))
 
-pub starts_show : (seat t : ℕ) (place : List ℕ) (a : Atom ℕ) (come : Then) (w : Whole) (last : Last) (ts : List Ticket) (log : List (Entry ℕ)) (st : LabelledStore) (new : List Ticket) (entries : List (Entry ℕ)) (after : LabelledStore) → EndsStart seat t place a come w last ts log st new entries after → (after.limit ≡ st.limit) × (last ≡ lasts.Passed → come ≡ thens.More)
+pub starts_show : (seat t : ℕ) (place : List ℕ) (a : Atom ℕ) (come : Then) (w : WholeTrial) (last : Last) (ts : List Ticket) (log : List (Entry ℕ)) (st : LabelledStore) (new : List Ticket) (entries : List (Entry ℕ)) (after : LabelledStore) → EndsStart seat t place a come w last ts log st new entries after → (after.limit ≡ st.limit) × (last ≡ lasts.Passed → come ≡ thens.More)
 starts_show seat t place a come w last ts log st new entries after (fires is own fired f) = (ap (λ (z : LabelledStore). z.limit) f.store, λ e. absurd (cc))
 starts_show seat t place a come w last ts log st new entries after (enters now es store g ends) =
     let show = ends_show seat t come w last now es store new entries after ends in

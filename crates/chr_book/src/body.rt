@@ -64,7 +64,7 @@ pub fn push_found<A: Allocator + Copy>(
     if then != Then::Whole {
         return Ok(());
     }
-    let Some(rule) = program.rule(usize::from(whole.number)) else {
+    let Some(rule) = program.rule(usize::from(whole.number())) else {
         unreachable!();
     };
     push_body(tickets, rule, binding)

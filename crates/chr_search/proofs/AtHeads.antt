@@ -1,10 +1,10 @@
 -- Labels put at the heads of a plan one by one.
-use Rattle.std.proofs.Common.{◌≡◌, ◌≢◌, ℕ, zero, suc, ◌+◌, ◌-◌, ◌<◌, ◌≤◌, Bool, true, false, ◌||◌, ◌==◌, List, [], ◌∷◌, ◌++◌, map, take, length, get_or, Option, Some, slice_get, refl, sym, ◌∙◌, ap, ap₂, subst, arith}
+use Rattle.std.proofs.Common.{◌≡◌, ◌≢◌, ℕ, zero, suc, ◌+◌, ◌-◌, ◌<◌, ◌≤◌, Bool, true, false, ◌||◌, ◌==◌, List, [], ◌∷◌, map, take, length, get_or, Option, Some, slice_get, refl, sym, ◌∙◌, ap, ap₂, subst, arith}
 use Rattle.std.proofs.Math.ListN.{set}
 use Rattle.std.specs.List.{AllByRecursion}
 use Rattle.std.specs.Option.{option_map}
 use Rattle.std.proofs.lemmas.Bool.Decides.{nat_tests}
-use Rattle.std.proofs.lemmas.List.{length-map, length-take, get_or-set_same, get_or-set_other, get_or_append_left, get_or-append-add}
+use Rattle.std.proofs.lemmas.List.{length-map, length-take, get_or-set_same, get_or-set_other}
 use Rattle.std.proofs.lemmas.List.Elements.{All-from_recursion}
 use Rattle.std.proofs.lemmas.Option.{slice_get_within, slice_get-map, get_or_from_slice_get}
 use Rattle.chr_value.specs.Atoms.{Value}
@@ -99,20 +99,15 @@ each_same order ls (x ∷ all) h (suc n) e f =
 each_same order ls [] h (suc n) e f = absurd (omega arith)
 each_same order ls (x ∷ all) h zero e f = absurd (omega arith)
 
-pub all_put : (j : Join) (ls : List ℕ) (t : Trial) → IsTrialIn j ls t → (kept removed : List ℕ) → length kept ≡ length j.rule.kept → length removed ≡ length j.rule.removed → (n : ℕ) → length ls ≡ length j.rule.kept + length j.rule.removed → length ls ≤ n → ArePut j ls n (kept ++ removed)
-    → (kept ≡ labels_at_heads j.order ls 1 (length j.rule.kept)) × (removed ≡ labels_at_heads j.order ls (suc (length j.rule.kept)) (length j.rule.removed))
-all_put j ls t is kept removed a b n full past put =
+pub all_put : (j : Join) (ls : List ℕ) (t : Trial) → IsTrialIn j ls t → (all : List ℕ) (n : ℕ) → length ls ≡ length j.rule.kept + length j.rule.removed → length all ≡ length ls → length ls ≤ n → ArePut j ls n all → all ≡ labels_at_heads j.order ls 1 (length j.rule.kept + length j.rule.removed)
+all_put j ls t is all n full room past put =
     let count = count_of_trial j ls t is in
     let heads = heads_of_trial j ls t is in
-    let all : length t.placed ≡ length (heads_of t.rule) = omega arith in
-    let at : (h : ℕ) → 1 ≤ h → h ≤ length ls → get_or (kept ++ removed) (h - 1) 0 ≡ label_at_head j.order ls h = λ h low high.
-    let there = step_named j.order t.placed h is.heads_are (is.formed.full all h low (omega arith)) in
-    subst (λ x. get_or (kept ++ removed) (x - 1) 0 ≡ label_at_head j.order ls x) there.4 (put there.0 there.1 (omega (arith, there.2)) there.3) in (
-      each_same j.order ls kept 1 (length j.rule.kept) a (λ k less.
-          sym (get_or_append_left kept removed 0 k (omega arith)) ∙ ap (λ x. get_or (kept ++ removed) x 0) (let q : k ≡ (1 + k) - 1 = omega arith in q) ∙ at (1 + k) (omega arith) (omega arith)),
-      each_same j.order ls removed (suc (length j.rule.kept)) (length j.rule.removed) b (λ k less.
-          sym (get_or-append-add kept removed k 0) ∙ ap (λ x. get_or (kept ++ removed) x 0) (let q : length kept + k ≡ (suc (length j.rule.kept) + k) - 1 = omega arith in q) ∙ at (suc (length j.rule.kept) + k) (omega arith) (omega arith)),
-    )
+    let every : length t.placed ≡ length (heads_of t.rule) = omega arith in
+    let at : (h : ℕ) → 1 ≤ h → h ≤ length ls → get_or all (h - 1) 0 ≡ label_at_head j.order ls h = λ h low high.
+    let there = step_named j.order t.placed h is.heads_are (is.formed.full every h low (omega arith)) in
+    subst (λ x. get_or all (x - 1) 0 ≡ label_at_head j.order ls x) there.4 (put there.0 there.1 (omega (arith, there.2)) there.3) in
+    each_same j.order ls all 1 (length j.rule.kept + length j.rule.removed) (room ∙ full) (λ k less. ap (λ x. get_or all x 0) (let q : k ≡ (1 + k) - 1 = omega arith in q) ∙ at (1 + k) (omega arith) (omega arith))
 
 -- a trial that is whole has a label for each head
 pub whole_count : (j : Join) (ls : List ℕ) (t : Trial) → IsTrialIn j ls t → (binding : List (Option (Value ℕ))) → AreWhole j ls binding → length ls ≡ length j.rule.kept + length j.rule.removed

@@ -3,7 +3,7 @@ use Rattle.std.proofs.Common.{◌≡◌, ℕ, zero, suc, ◌+◌, ◌<◌, ◌�
 use Rattle.std.specs.List.{AllByRecursion}
 use Rattle.std.proofs.lemmas.Bool.Decides.{nat_tests}
 use Rattle.std.proofs.lemmas.List.{length-map, take-append-drop, take_all, append-nil, get_or_push}
-use Rattle.std.proofs.Math.Seq.{set-append_seam}
+use Rattle.std.proofs.Math.Seq.{set-append_seam, take-append_seam, drop-append_seam}
 use Rattle.std.proofs.lemmas.Option.{slice_get_within, slice_get-get_or}
 use Rattle.chr_value.specs.Atoms.{Atom}
 use Rattle.chr_rule.specs.Rules.{Simpagation, rule_at}
@@ -56,6 +56,19 @@ read_more f xs new x ys i y e n s at = ap (map f) n ∙ map_push f xs x ∙ ap�
 pub all_more : {X : Type 0} (P : X → Type 0) (xs new : List X) (x : X) → AllByRecursion P xs → new ≡ xs ++ x ∷ [] → P x → AllByRecursion P new
 all_more P xs new x a e p = subst (AllByRecursion P) (sym e) ((all_push P xs x).1 (a, p))
 
+-- a list in two parts
+pub record AreParts {X : Type 0} (k : ℕ) (all front back : List X) : Type 0 where
+  pub within : k ≤ length all
+  pub first : take k all ≡ front
+  pub rest : drop k all ≡ back
+
+pub two_parts : {X : Type 0} (k : ℕ) (all front back : List X) → all ≡ front ++ back → k ≡ length front → AreParts k all front back
+two_parts k all front back e n = record {
+  within = omega (arith, n, ap length e, length-append front back);
+  first = ap₂ take n e ∙ take-append_seam front back;
+  rest = ap₂ drop n e ∙ drop-append_seam front back;
+}
+
 -- lists of what each number from one on has
 module _ {A : Type 0} (f : ℕ → A) (F : ℕ → ℕ → List A) (none : (h : ℕ) → F h zero ≡ []) (more : (h n : ℕ) → F h (suc n) ≡ f h ∷ F (suc h) n) where
   pub each_count : (h n : ℕ) → length (F h n) ≡ n
@@ -72,6 +85,12 @@ module _ {A : Type 0} (f : ℕ → A) (F : ℕ → ℕ → List A) (none : (h : 
 
   pub each_push : (h i : ℕ) (x : A) (xs new : List A) → xs ≡ F h i → x ≡ f (h + i) → new ≡ xs ++ x ∷ [] → new ≡ F h (i + 1)
   each_push h i x xs new e g n = n ∙ ap₂ (λ ys y. ys ++ y ∷ []) e g ∙ ap (λ ys. F h i ++ ys) (sym (more (h + i) 0 ∙ ap (λ ys. f (h + i) ∷ ys) (none (suc (h + i))))) ∙ sym (each_append h i 1)
+
+  pub each_both : (a b : ℕ) → F 1 (a + b) ≡ F 1 a ++ F (suc a) b
+  each_both a b = each_append 1 a b ∙ ap (λ h. F 1 a ++ F h b) (let q : 1 + a ≡ suc a = omega arith in q)
+
+  pub each_parts : (a b k : ℕ) (all : List A) → all ≡ F 1 (a + b) → k ≡ a → AreParts k all (F 1 a) (F (suc a) b)
+  each_parts a b k all e n = two_parts k all (F 1 a) (F (suc a) b) (e ∙ each_both a b) (n ∙ sym (each_count 1 a))
 
 -- the labels of a trial
 pub grows_count : (j : Join) (before more : List ℕ) → Grows (MayFollow j) before more → length before ≤ length j.order → length (before ++ more) ≤ length j.order

@@ -11,7 +11,6 @@ use Rattle.chr_plan.specs.Plans.{PlanList, ArePlans}
 use Rattle.chr_plan.specs.declared.order.Step.{Step}
 use Rattle.chr_store.specs.Labels.{LabelledStore, IsLabelled}
 use Rattle.chr_store.specs.Views.{Seen}
-use Rattle.chr_search.specs.declared.search.Whole.{Whole as CodeWhole}
 use Rattle.chr_search.specs.Positions.{at_or_after, past}
 use Rattle.chr_search.specs.Tree.{Grows, Least, NoneBeyond}
 use Rattle.chr_search.specs.Trials.{Join, HasHeadPred, MayFollow, Space, older, join_in, IsPlanned, Child, IsTrial, IsNext, NoneLeft}
@@ -20,6 +19,7 @@ use Rattle.chr_search.specs.Partners.{HasPlan}
 use Rattle.chr_search.specs.Answers.{after_verdict}
 use Rattle.chr_search.specs.Passing.{IsTrialIn, HasTrials, AreWhole, PassesOneIn, PassesIn, PassesOne, Passes, IsWholeNext}
 use Rattle.chr_search.specs.PlanByPlan.{label_at_head, labels_at_heads, labels_in, IsJoinOf, IsJoinAt, HasComeTo, IsWholeAt}
+use Rattle.chr_search.specs.Wholes.{WholeTrial}
 use Rattle.chr_search.proofs.Positions.{after_itself, after_by}
 use Rattle.chr_search.proofs.Plans.{heads_in, planned}
 use Rattle.chr_search.proofs.Tree.{least_deep}
@@ -180,7 +180,7 @@ kept_head s r h rule order m (l ∷ ls) some g away =
     ]
 
 -- the trial that is whole
-pub whole_at : (s : Space) (r h : ℕ) (j : Join) → IsJoinAt s r h j → Makes s j.rule j.order r h → (place : List ℕ) (n : ℕ) (labels ls : List ℕ) (binding : List (Option (Value ℕ))) → (gone : HasGone s place r h n labels) → Least (MayFollow j) 1 [] labels ls → AreWhole j ls binding → (w : CodeWhole) → IsWholeAt j r h ls w → IsWholeNext s gone.after w binding
+pub whole_at : (s : Space) (r h : ℕ) (j : Join) → IsJoinAt s r h j → Makes s j.rule j.order r h → (place : List ℕ) (n : ℕ) (labels ls : List ℕ) (binding : List (Option (Value ℕ))) → (gone : HasGone s place r h n labels) → Least (MayFollow j) 1 [] labels ls → AreWhole j ls binding → (w : WholeTrial) → IsWholeAt j r h ls w → IsWholeNext s gone.after w binding
 whole_at s r h j k m place n labels ls binding gone l whole w at =
     let g = subst (λ (x : Join). (1 ≤ length ls) × Grows (MayFollow x) [] ls) k.is (grown j labels ls l) in
     let t = made_of s j.rule j.order r h m ls g.0 g.1 in

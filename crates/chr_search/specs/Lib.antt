@@ -12,3 +12,4 @@ pub mod Answers
 pub mod Passing
 pub mod PlanByPlan
 pub mod Fronts
+pub mod Wholes

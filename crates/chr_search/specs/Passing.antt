@@ -15,7 +15,6 @@ use Rattle.chr_search.specs.declared.passing.Next.TheVariants as nexts
 use Rattle.chr_search.specs.declared.passing.Passed.{Passed}
 use Rattle.chr_search.specs.declared.passing.Stop.{Stop}
 use Rattle.chr_search.specs.declared.passing.Stop.TheVariants as stops
-use Rattle.chr_search.specs.declared.search.Whole.{Whole as CodeWhole}
 use Rattle.chr_search.specs.declared.search.Instance.{Instance}
 use Rattle.chr_search.specs.declared.search.Passed.{Passed as CodePassed}
 use Rattle.chr_search.specs.declared.search.Then.{Then as CodeThen}
@@ -27,6 +26,7 @@ use Rattle.chr_search.specs.Partners.{HasPlan, IsReady, GivePartners, IsLastHead
 use Rattle.chr_search.specs.Verdicts.{Trial, labels, heads, position, kept_labels, removed_labels, IsFormed, IsTrialOf, IsWholeUnder}
 use Rattle.chr_search.specs.Judged.{Judgement, IsVerdict}
 use Rattle.chr_search.specs.Answers.{after_verdict, after_judging}
+use Rattle.chr_search.specs.Wholes.{WholeTrial}
 
 -- the trial of these labels: it has the join's rule and the heads of its plan, and its labels'
 -- atoms in the store
@@ -202,7 +202,7 @@ pub record PassesLevel (j : Join) (path : List ℕ) (from : ℕ) (place : List �
   pub stops : StopsAt j path from stop after ls binding
 
 -- what was found is the next trial at a place, and it is whole under this binding
-pub record IsWholeNext (s : Space) (place : List ℕ) (w : CodeWhole)
+pub record IsWholeNext (s : Space) (place : List ℕ) (w : WholeTrial)
     (binding : List (Option (Value ℕ))) : Type 0 where
   pub trial : Trial
   pub next : IsNext s place (position trial)
@@ -210,11 +210,11 @@ pub record IsWholeNext (s : Space) (place : List ℕ) (w : CodeWhole)
   pub formed : IsFormed trial
   pub under : IsWholeUnder trial binding
   pub number_is : w.number ≡ trial.number
-  pub kept_are : w.kept.items ≡ kept_labels trial
-  pub removed_are : w.removed.items ≡ removed_labels trial
+  pub kept_are : w.kept ≡ kept_labels trial
+  pub removed_are : w.removed ≡ removed_labels trial
   pub label_is : w.past.label ≡ s.active
   -- where the active label is removed its goal ends, and where the search stands is left open
-  pub past_is : among w.removed.items w.past.label ≡ false → w.past.place ≡ past (position trial)
+  pub past_is : among w.removed w.past.label ≡ false → w.past.place ≡ past (position trial)
 
 -- what comes at a place once trials were passed over: one that is whole, which is this instance;
 -- none; or perhaps more

@@ -10,10 +10,10 @@ use Rattle.chr_search.specs.declared.passing.End.{End}
 use Rattle.chr_search.specs.declared.passing.End.TheVariants as ends
 use Rattle.chr_search.specs.declared.search.Then.{Then as CodeThen}
 use Rattle.chr_search.specs.declared.search.Then.TheVariants as thens
-use Rattle.chr_search.specs.declared.search.Whole.{Whole as CodeWhole}
 use Rattle.chr_search.specs.Positions.{at_or_after, past}
 use Rattle.chr_search.specs.Trials.{Join, MayFollow, Space, join_in, IsPlanned, IsTrial}
 use Rattle.chr_search.specs.Partners.{HasPlan}
+use Rattle.chr_search.specs.Wholes.{WholeTrial}
 
 -- the label at a head, of labels in a plan's order, 0 where there is none; and the labels at the
 -- next n heads
@@ -74,10 +74,10 @@ pub record AreAhead (s : Space) (r h : ℕ) (heads : HeadsFrom) : Type 0 where
   pub listed : AreHeadsFrom s.rules heads r h
 
 -- this is the trial of these labels, one for each head, by the plan of a rule and a head
-pub record IsWholeAt (j : Join) (r h : ℕ) (ls : List ℕ) (w : CodeWhole) : Type 0 where
+pub record IsWholeAt (j : Join) (r h : ℕ) (ls : List ℕ) (w : WholeTrial) : Type 0 where
   pub number_is : w.number ≡ r
-  pub kept_are : w.kept.items ≡ labels_at_heads j.order ls 1 (length j.rule.kept)
-  pub removed_are : w.removed.items ≡
+  pub kept_are : w.kept ≡ labels_at_heads j.order ls 1 (length j.rule.kept)
+  pub removed_are : w.removed ≡
       labels_at_heads j.order ls (suc (length j.rule.kept)) (length j.rule.removed)
   pub label_is : w.past.label ≡ j.active
   pub past_is : h ≤ length j.rule.kept → w.past.place ≡ past (r ∷ h ∷ ls)
@@ -85,7 +85,7 @@ pub record IsWholeAt (j : Join) (r h : ℕ) (ls : List ℕ) (w : CodeWhole) : Ty
 -- what comes once trials of the plan of a rule and a head were passed over, and where the search
 -- stands then: nothing, where none of them is left; perhaps more, from these labels on; or the
 -- trial of these labels, which is whole
-abbrev pub IsThenAfter : Join → ℕ → ℕ → List ℕ → End → Option CodeThen → CodeWhole → List ℕ →
+abbrev pub IsThenAfter : Join → ℕ → ℕ → List ℕ → End → Option CodeThen → WholeTrial → List ℕ →
     List ℕ → Type 0
 IsThenAfter j r h ls ends.NoneLeft found w stood here = (found ≡ None) × (here ≡ stood)
 IsThenAfter j r h ls ends.Enough found w stood here =

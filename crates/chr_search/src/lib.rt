@@ -26,10 +26,12 @@ mod position;
 mod search;
 mod trial;
 mod walk;
+mod whole;
 
 pub use fitted::{Fitted, is_misfit_alone};
 pub use front::Front;
 pub use judged::{Judged, Verdict, judge, settled_on};
 pub use position::Position;
-pub use search::{Ask, Instance, Passed, Search, Then, Whole};
+pub use search::{Ask, Instance, Passed, Search, Then};
 pub use trial::{Placed, Trial};
+pub use whole::Whole;

@@ -14,9 +14,8 @@ ghost use Rattle.chr_search.specs.Verdicts.{Trial as TrialView, IsPart, position
 ghost use Rattle.chr_search.specs.Fronts.{ComeAfter};
 ghost use Rattle.chr_search.specs.Joined.{join_of};
 ghost use Rattle.chr_search.specs.Passing.{IsTrialIn, BeginsTrials, IsCounted, PassesPlan, PassesTo, PassesFrom};
-ghost use Rattle.chr_search.specs.PlanByPlan.{AreAhead, IsUnplanned, IsJoinOf, labels_in, HasComeTo, IsNextJoin, IsWholeAt, IsThenAfter};
+ghost use Rattle.chr_search.specs.PlanByPlan.{AreAhead, IsUnplanned, IsJoinOf, labels_in, HasComeTo, IsNextJoin, IsThenAfter};
 
-use crate::at_heads::{put_at_heads, resize};
 use crate::join::Join;
 use crate::judged::{Judged, Verdict};
 use crate::passing;
@@ -24,6 +23,7 @@ use crate::passing::End;
 use crate::position::{Position, set_alone};
 use crate::trial::Trial;
 use crate::walk::Walk;
+use crate::whole::Whole;
 use chr_guard::Binding;
 use chr_log::Labels;
 use chr_plan::{Plans, Step};
@@ -42,19 +42,6 @@ pub enum Ask<A: Allocator> {
     Done,
 }
 
-/// A trial that a search has found to be whole.
-#[derive(Drop)]
-pub struct Whole {
-    /// The labels at the kept heads, in head order.
-    pub kept: Labels,
-    /// The labels at the removed heads, in head order.
-    pub removed: Labels,
-    /// The search past the trial. Where its label is one of those removed, how far its trials are ruled out is left open.
-    pub past: Search,
-    /// The number of its rule in the program.
-    pub number: u16,
-}
-
 /// The labels of a trial that is whole, and the trial itself. A search that passes over trials is lent one and sets it, since
 /// one costs more to make than to set; while it goes over them, the labels are those before the last.
 #[derive(Drop)]
@@ -68,41 +55,16 @@ impl Instance {
     pub fn new() -> Instance {
         Instance {
             labels: Labels::new(),
-            whole: Whole {
-                number: 1,
-                kept: Labels::new(),
-                removed: Labels::new(),
-                past: Search::begin(0),
-            },
+            whole: Whole::none(),
         }
     }
 
     /// The trial.
+    #[inline(always)]
     pub fn whole(&self) -> &Whole
         ensures { result.now ≡ self.now.whole }
     {
         &self.whole
-    }
-
-    /// Sets the trial to that of the labels, one for each head, by the rule and the head at which a walk stands.
-    #[inline(always)]
-    fn set_whole<A: Allocator + Copy>(&mut self, join: &Join<'_, A>, walk: &Walk<'_>)
-        requires rule { 1 ≤ walk.now.rule }
-        requires head { 1 ≤ walk.now.head }
-        requires trial { (t : TrialView) × IsTrialIn (join_of join.now) self.old.labels.items t }
-        requires full { length self.old.labels.items ≡ length join.now.rule.now.kept + length join.now.rule.now.removed }
-        ensures whole { IsWholeAt (join_of join.now) walk.now.rule walk.now.head self.old.labels.items self.new.whole }
-        ensures labels { self.new.labels ≡ self.old.labels }
-    {
-        let labels = self.labels.as_slice();
-        let whole = &mut self.whole;
-        whole.number = walk.rule;
-        resize(&mut whole.kept, join.rule.kept().len());
-        resize(&mut whole.removed, join.rule.removed().len());
-        let kept = whole.kept.as_mut_slice();
-        let removed = whole.removed.as_mut_slice();
-        put_at_heads(kept, removed, join, labels);
-        whole.past.set_past(join, walk, labels);
     }
 }
 
@@ -186,7 +148,7 @@ impl Search {
     /// Becomes that of the join's active label, past the trial of these labels at the rule and the head at which a walk stands.
     /// Where that is a removed head the label goes, and how far its trials are ruled out is left open: no search goes on there.
     #[inline(always)]
-    fn set_past<A: Allocator + Copy>(
+    pub(crate) fn set_past<A: Allocator + Copy>(
         &mut self,
         join: &Join<'_, A>,
         walk: &Walk<'_>,
@@ -581,7 +543,7 @@ impl Search {
                 Some(Then::More)
             }
             End::Whole => {
-                instance.set_whole(join, walk);
+                instance.whole.set(join, walk, instance.labels.as_slice());
                 Some(Then::Whole)
             }
         }

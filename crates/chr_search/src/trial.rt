@@ -269,6 +269,13 @@ impl<A: Allocator + Copy> Trial<A> {
         )
     }
 
+    /// The labels at the heads, in head order: the kept ones first. A head that isn't tried has 0.
+    pub(crate) fn labels_at_heads(&self) -> Labels
+        ensures { result.items ≡ kept_labels self.now ++ removed_labels self.now }
+    {
+        labels_from(&self.placed, 1, self.rule.heads())
+    }
+
     /// Where its labels lie.
     pub(crate) fn allocator(&self) -> A {
         *self.placed.allocator()

@@ -146,8 +146,9 @@ fn is_found(passed: Passed, instance: &Instance, expected: Expected) -> bool {
     let whole = instance.whole();
     passed.then == Then::Whole
         && passed.count == expected.0
-        && whole.kept.as_slice() == expected.1
-        && whole.removed.as_slice() == expected.2
+        && whole.kept() == expected.1.len()
+        && whole.labels().as_slice().starts_with(expected.1)
+        && whole.removed() == expected.2
 }
 
 /// Whether the search for an atom finds that instance before the atom is entered under the next label.

@@ -3,8 +3,8 @@ use Rattle.std.proofs.lemmas.List.{set-get_or}
 use Rattle.std.proofs.lemmas.Result.{err_from_is_err_and}
 use Rattle.chr_rule.specs.Rules.{Simpagation, rule_at}
 use Rattle.chr_search.specs.Trials.{older}
+use Rattle.chr_search.specs.Wholes.{WholeTrial}
 use Rattle.chr_search.specs.declared.search.Then.{Then}
-use Rattle.chr_search.specs.declared.search.Whole.{Whole}
 use Rattle.chr_calls.specs.Tickets.{Ticket, ended, ticket_at}
 use Rattle.chr_tickets.specs.Passed.{gone_over}
 use Rattle.chr_book.specs.Firings.{MakesFound}
@@ -17,7 +17,7 @@ push_found-requires g c = (
   λ is.
       let l = c.requires.active.0 in
       let over = c.pass_over-come.ensures.passed l c.requires.active.1 in
-      subst (λ (w : Whole). (rule : Simpagation ℕ) × (rule_at c.args.program.now w.number ≡ Some rule)) (sym c.whole.ensures)
+      subst (λ (w : WholeTrial). (rule : Simpagation ℕ) × (rule_at c.args.program.now w.number ≡ Some rule)) (sym c.whole.ensures)
       (finds (older c.args.program.now c.args.plans.now c.args.store.now.entries l) over.place c.pass_over-come.result.then c.pass_over-come.new.instance c.pass_over-come.new.bound over.next is).0,
 )
 
@@ -28,7 +28,7 @@ returns-clause-ok g c =
       x = ticket_at c.pass_over-come.new.self c.args.ticket;
       over = c.pass_over-come.ensures.passed l is;
       more = body.0;
-      made = subst (λ (w : Whole). MakesFound c.args.program.now c.pass_over-come.result.then w c.pass_over-come.new.bound body.0) c.whole.ensures body.1;
+      made = subst (λ (w : WholeTrial). MakesFound c.args.program.now c.pass_over-come.result.then w c.pass_over-come.new.bound body.0) c.whole.ensures body.1;
       tickets = body.2 ∙ ap (λ (ts : List Ticket). ts ++ body.0) c.pass_over-come.ensures.others;
     }
 

@@ -1,4 +1,6 @@
-use Rattle.std.proofs.Common.{◌≡◌, ◌++◌, Some, None, false, get_or, slice_get, arith, length-append}
+use Rattle.std.proofs.Common.{◌≡◌, ◌-◌, Some, None, false, get_or, slice_get, ap, ◌∙◌, arith}
+use Rattle.std.proofs.Math.ListN.{set}
+use Rattle.std.proofs.lemmas.List.{length-set}
 use Rattle.std.proofs.lemmas.Option.{slice_get-get_or}
 use Rattle.chr_search.specs.Joined.{join_of}
 use Rattle.chr_search.proofs.AtHeads.{IsAtStep, at_step, steps_enough, put_next, all_put}
@@ -16,21 +18,23 @@ step_is g c =
 here : (g : _) (c : In-loop-i g) → IsAtStep (join_of c.args.join.now) c.args.labels.now c.loop-i.i (get_or c.args.join.now.order.now c.loop-i.i (record { head = 0; key = None; fresh = false }))
 here g c = at_step (join_of c.args.join.now) c.args.labels.now c.requires.trial.0 c.requires.trial.1 c.loop-i.i _ c.loop-i-test.true (step_is g c)
 
-pub put_at_head-requires-clause-from : goal.put_at_head-requires-clause-from
-put_at_head-requires-clause-from g c = (here g (goal.at.put_at_head-requires-clause-from g c).In-loop-i).from
+pub overflow_sub-heads : goal.overflow_sub-heads
+overflow_sub-heads g c = omega (arith, c.from.ensures, (here g (goal.at.overflow_sub-heads g c).In-loop-i).from)
 
-pub put_at_head-requires-clause-to : goal.put_at_head-requires-clause-to
-put_at_head-requires-clause-to g c = omega (arith, (here g (goal.at.put_at_head-requires-clause-to g c).In-loop-i).to)
+pub bounds-heads-from : goal.bounds-heads-from
+bounds-heads-from g c =
+    let at = here g (goal.at.bounds-heads-from g c).In-loop-i in
+    omega (arith, c.from.ensures, at.from, at.to, c.requires.full, c.loop-i.invariant.0)
 
 pub loop-i-preserved : goal.loop-i-preserved
 loop-i-preserved g c =
-    put_next (join_of c.args.join.now) c.args.labels.now c.requires.trial.0 c.requires.trial.1 (c.loop-i.kept ++ c.loop-i.removed) (c.put_at_head.new.kept ++ c.put_at_head.new.removed) c.loop-i.i _ c.loop-i-test.true (step_is g (goal.at.loop-i-preserved g c).In-loop-i)
-    (omega (arith, length-append c.loop-i.kept c.loop-i.removed)) c.put_at_head.ensures c.loop-i.invariant
+    let j = join_of c.args.join.now in
+    let ls = c.args.labels.now in
+    let heads = c.loop-i.heads in (
+      length-set heads _ _ ∙ c.loop-i.invariant.0,
+      put_next j ls c.requires.trial.0 c.requires.trial.1 heads _ c.loop-i.i _ c.loop-i-test.true (step_is g (goal.at.loop-i-preserved g c).In-loop-i) (c.loop-i.invariant.0 ∙ c.requires.full) (ap (λ n. set heads (n - 1) (get_or ls c.loop-i.i 0)) c.from.ensures) c.loop-i.invariant.1,
+    )
 
-pub returns-clause-kept : goal.returns-clause-kept
-returns-clause-kept g c =
-    (all_put (join_of c.args.join.now) c.args.labels.now c.requires.trial.0 c.requires.trial.1 c.loop-i.kept c.loop-i.removed (omega arith) (omega arith) c.loop-i.i c.requires.full c.loop-i-test.false c.loop-i.invariant).0
-
-pub returns-clause-removed : goal.returns-clause-removed
-returns-clause-removed g c =
-    (all_put (join_of c.args.join.now) c.args.labels.now c.requires.trial.0 c.requires.trial.1 c.loop-i.kept c.loop-i.removed (omega arith) (omega arith) c.loop-i.i c.requires.full c.loop-i-test.false c.loop-i.invariant).1
+pub returns : goal.returns
+returns g c =
+    all_put (join_of c.args.join.now) c.args.labels.now c.requires.trial.0 c.requires.trial.1 c.loop-i.heads c.loop-i.i c.requires.full c.loop-i.invariant.0 c.loop-i-test.false c.loop-i.invariant.1

@@ -4,7 +4,7 @@ use Rattle.chr_store.specs.Labels.{entered}
 use Rattle.chr_search.specs.Positions.{beginning}
 use Rattle.chr_search.specs.Reach.{SearchState}
 use Rattle.chr_search.specs.Trials.{older}
-use Rattle.chr_search.specs.declared.search.Whole.{Whole}
+use Rattle.chr_search.specs.Wholes.{WholeTrial}
 use Rattle.chr_calls.specs.Headline.{IsKept}
 use Rattle.chr_calls.specs.Books.{BookState}
 use Rattle.chr_book.specs.Books.{book_of}
@@ -86,6 +86,6 @@ pub end_start-requires-clause-found : goal.end_start-requires-clause-found
 end_start-requires-clause-found g c =
     let x = c.self.inside in
     let found = c.in-Ok.ensures.ok in λ is.
-    ap (λ (w : Whole). w.past.label) c.whole.ensures
+    ap (λ (w : WholeTrial). w.past.label) c.whole.ensures
     ∙ (finds (older c.deref.result.now x.plans (entered x.store c.take_waiting.new.other).entries c.restart.new.self.label) found.over.after c.in-Ok.come.then c.pass_over_before.new.instance found.binding found.over.next is).1
     ∙ ap (λ (z : SearchState). z.label) c.restart.ensures ∙ c.next_label.ensures.value
