@@ -6,8 +6,13 @@ A command is a line of a block `sh`, or a line of another block after `$ `; the 
 `chr session`. What it is to print is the rest of its block; after a block `sh` it is the block that follows, or the first
 column of a table that begins with `It prints`. A command for which the page shows no output must end with status 0.
 
-The program is that of release/. Where ./chr would build one, nothing is run.
+  tests/pages.py PROGRAM  runs them with this program, which was built from the sources at hand
+  tests/pages.py          runs them with the program that ./chr runs, of out/ or of release/; where ./chr would build one, the
+                          pages count as skipped
+
+The last line is 'N passed, M failed', and then ', K skipped' where the pages were.
 """
+import hashlib
 import os
 import pathlib
 import re
@@ -78,30 +83,49 @@ def first_wrong(page, folder):
     return None
 
 
-def is_released(folder):
-    """Copies the repository without ./build, so that nothing is built there, and returns whether ./chr runs all the same."""
+def has_program(folder, program):
+    """Copies the repository with this program, but without ./build, so that nothing is built there, and returns whether ./chr
+    runs: if no program is given, that of out/ or of release/."""
     left_out = shutil.ignore_patterns(".git", "out", "__pycache__")
     shutil.copytree(TOP, f"{folder}/chr", symlinks=True, ignore=left_out)
     os.remove(f"{folder}/chr/build")
+    if program:
+        os.mkdir(f"{folder}/chr/out")
+        shutil.copy(program, f"{folder}/chr/out/chr")
+        sources = subprocess.run([f"{folder}/chr/release/sum"], stdout=subprocess.PIPE, text=True, check=True).stdout.strip()
+        own = hashlib.sha256(pathlib.Path(program).read_bytes()).hexdigest()
+        pathlib.Path(f"{folder}/chr/out/built-from").write_text(f"sources {sources}\nprogram {own}\n", encoding="utf-8")
+    elif all(os.path.exists(TOP / "out" / it) for it in ("chr", "built-from")):
+        os.mkdir(f"{folder}/chr/out")
+        for it in ("chr", "built-from"):
+            shutil.copy(TOP / "out" / it, f"{folder}/chr/out/{it}")
     return subprocess.run(["./chr", "--version"], cwd=f"{folder}/chr", capture_output=True, check=False).returncode == 0
 
 
-def main():
+def result_of(name, program):
+    """Runs the commands of a page, and returns whether it is `ok`, `FAILED` or `skipped`."""
+    with tempfile.TemporaryDirectory(prefix="chr-pages-") as folder:
+        if not has_program(folder, program):
+            why = f"{program} doesn't run" if program else "./chr would build a program, so no command is run"
+            print(f"pages: {why}", file=sys.stderr)
+            return "FAILED" if program else "skipped"
+        wrong = first_wrong((TOP / name).read_text(encoding="utf-8"), folder)
+    if wrong:
+        print(wrong, file=sys.stderr)
+    return "FAILED" if wrong else "ok"
+
+
+def main(words):
     for number in (signal.SIGTERM, signal.SIGHUP):
         signal.signal(number, lambda it, _: sys.exit(128 + it))
-    failed = 0
+    found = []
     for name in PAGES:
-        with tempfile.TemporaryDirectory(prefix="chr-pages-") as folder:
-            if not is_released(folder):
-                print("test pages ... left out, since ./chr would build")
-                break
-            wrong = first_wrong((TOP / name).read_text(encoding="utf-8"), folder)
-        failed += wrong is not None
-        print(f"test pages::{pathlib.Path(name).stem} ... {'FAILED' if wrong else 'ok'}", flush=True)
-        if wrong:
-            print(wrong, file=sys.stderr)
+        found.append(result_of(name, words[0] if words else None))
+        print(f"test pages::{pathlib.Path(name).stem} ... {found[-1]}", flush=True)
+    passed, failed, skipped = (found.count(it) for it in ("ok", "FAILED", "skipped"))
+    print(f"{passed} passed, {failed} failed{f', {skipped} skipped' if skipped else ''}")
     return failed != 0
 
 
 if __name__ == "__main__":
-    sys.exit(main())
+    sys.exit(main(sys.argv[1:]))

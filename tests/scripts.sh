@@ -216,7 +216,7 @@ for name in $(declare -F | sed 's/^declare -f //'); do
   fi
 done
 
-for script in building.sh pages.py pictures.py reference.py statements.py; do
+for script in building.sh pictures.py reference.py statements.py proving.py; do
   shown=$("$top/tests/$script")
   status=$?
   grep '^test ' <<<"$shown"

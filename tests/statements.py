@@ -210,9 +210,10 @@ def sums_rest_on_crates_below():
         "crates/other/src/lib.rt": "pub fn other() {}\n",
     }
     # By the file that changes: its new text, and the crates whose sums change.
+    body, spec = files["crates/low/src/lib.rt"].replace("    1\n", "    2 - 1\n"), files["crates/low/specs/Low.antt"]
     changes = {
-        "crates/low/src/lib.rt": [(files["crates/low/src/lib.rt"].replace("    1\n", "    2 - 1\n"), ""), ("pub fn low() {}\n", "middle high")],
-        "crates/low/specs/Low.antt": [("abbrev pub one : ℕ\n-- It is two.\none = 1\n", ""), ("abbrev pub one : ℕ\none = 2\n", "middle high")],
+        "crates/low/src/lib.rt": [(body, ""), ("pub fn low() {}\n", "middle high")],
+        "crates/low/specs/Low.antt": [(f"-- It is two.\n{spec}", ""), (spec.replace("= 1", "= 2"), "middle high")],
         "crates/low/specs/New.antt": [("", "middle high")],
         "crates/low/proofs/Low.antt": [("another", "")],
         "crates/middle/src/lib.rt": [("pub fn middle(_: u8) {}\n", "high")],
