@@ -2,6 +2,7 @@
 """Tests tools/statements.py by worked cases: what changes the statements of a file, and what doesn't; and that the sum of a crate
 rests on the crates below it alone. Each test is a line `test statements::NAME ... ok` or `test statements::NAME ... FAILED`."""
 import os
+import re
 import sys
 import tempfile
 import traceback
@@ -235,14 +236,24 @@ def sums_rest_on_crates_below():
         assert of.sums(folder, "logic 1") == before
 
 
+def texts_of_crates(part, ending):
+    for name in os.listdir(f"{TOP}/crates"):
+        for at, _, names in os.walk(f"{TOP}/crates/{name}/{part}"):
+            for path in (f"{at}/{it}" for it in names if it.endswith(ending)):
+                with open(path, encoding="utf-8") as file:
+                    yield path, file.read()
+
+
 def every_file_of_the_crates_can_be_read():
-    found = 0
-    for at, _, names in os.walk(f"{TOP}/crates"):
-        for path in (f"{at}/{it}" for it in names if it.endswith(".rt") and f"{TOP}/crates/" in at and "/out" not in at):
-            with open(path, encoding="utf-8") as file:
-                of.kept_of(of.words_of(file.read()))
-            found += 1
-    assert found > 100
+    found = [of.kept_of(of.words_of(text)) for _, text in texts_of_crates("src", ".rt")]
+    assert found
+
+
+# The sum leaves out proofs/, so no definition may stand there that a clause or a definition of specs/ cites.
+def no_statement_cites_proofs():
+    names = "|".join(os.listdir(f"{TOP}/crates"))
+    for path, text in [*texts_of_crates("src", ".rt"), *texts_of_crates("specs", ".antt")]:
+        assert not re.search(rf"\bRattle[.·]({names})[.·]proofs\b", of.statements_in(path, text)), path
 
 
 TESTS = (
@@ -254,6 +265,7 @@ TESTS = (
     modules_and_other_blocks,
     sums_rest_on_crates_below,
     every_file_of_the_crates_can_be_read,
+    no_statement_cites_proofs,
 )
 
 
