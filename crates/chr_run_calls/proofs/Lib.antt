@@ -1,2 +1,3 @@
 mod Said
 mod Runs
+mod Made

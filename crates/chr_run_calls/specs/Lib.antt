@@ -1,4 +1,5 @@
 pub mod Lists
 pub mod Told
 pub mod CallLists
+pub mod Made
 pub mod Code

@@ -11,7 +11,10 @@
 //! `AnswersAre` says of a book, calls, their answers and the book afterwards that each answer is the one of its call's line
 //! in the table, in order. [`laws`] are contracts of functions that do nothing: answers to a list of calls are a run of the
 //! book, and so, from a book as it is opened, the headline of `chr_calls` holds for exactly the atoms that the calls
-//! posted.
+//! posted; and no search moves back.
+//!
+//! What `chr run` and the workers of a server make is such a list too: `AreCalls` says so of the rounds of `chr_book`, of
+//! sheets, and of the run of one seat.
 #![tactic(auto)]
 
 mod calls;
