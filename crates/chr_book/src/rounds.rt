@@ -116,9 +116,9 @@ impl<A: Allocator + Copy> Book<A> {
     /// Makes rounds of calls for a ticket that the seat holds, at most so many. In each, [`trial`](Book::trial) gives the next
     /// trial, and with the right verdict [`report`](Book::report) passes over it, up to one that is whole: that one
     /// [`fire`](Book::fire) fires, which is the last round; where no trial is left, [`drop_goal`](Book::drop_goal) drops the
-    /// goal in the last round. Where none fires or drops, they are one fewer than asked for. No round where the seat doesn't
-    /// hold the ticket or the goal's label has left the store. An `Err` is E01: rounds that pass over trials may have been
-    /// made, fewer than asked for, and no other.
+    /// goal in the last round. Where none fires or drops, they are at most one fewer than asked for. No round where the seat
+    /// doesn't hold the ticket or the goal's label has left the store. An `Err` is E01: rounds that pass over trials may have
+    /// been made, fewer than asked for, and no other.
     pub fn go_on(&mut self, seat: u32, ticket: u64, most: u64) -> Result<Rounds, AllocError>
         ensures few { IfOk result (λ rounds. rounds_in rounds ≤ most) }
         ensures all { IsHeldLive self.old seat ticket → IfOk result (λ rounds. rounds.last ≡ lasts.Passed → most ≤ rounds.passed + 1) }
