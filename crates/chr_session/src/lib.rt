@@ -18,7 +18,7 @@
 //! pieces it comes; the states of the desk and its replies are a run of the desk's step relation over these commands; and
 //! the bytes written are the text of all replies. Where a device fails, a beginning of these bytes is written.
 //!
-//! A session takes memory once, before its first command: its rooms don't grow with the length of the input.
+//! A session takes memory once, before its first command ([`Rooms`]): its rooms don't grow with the length of the input.
 #![tactic(auto)]
 
 mod buffer;
@@ -37,8 +37,8 @@ mod writing;
 
 pub use commands::Ended;
 pub use desk::{Command, Desk, Fault, Reply};
-pub use devices::{Sink, Source};
+pub use devices::{Failed, Sink, Source};
 pub use failing::Failing;
 pub use memory::{MemorySink, MemorySource};
-pub use session::{ServeFault, serve};
+pub use session::{Rooms, ServeFault, serve, serve_in};
 pub use streams::Stream;

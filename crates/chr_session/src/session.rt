@@ -43,7 +43,7 @@ fn answer<A: Allocator, D: Desk<A>>(
     }
 }
 
-/// A whole session, whose lines and texts go into room that was made before.
+/// Serves a whole session, whose lines and texts go into room that was made before.
 fn run_session<S: Source, W: Sink, A: Allocator, D: Desk<A>>(
     line: &mut Vec<u8, A>,
     text: &mut Vec<u8, A>,
@@ -60,6 +60,8 @@ fn run_session<S: Source, W: Sink, A: Allocator, D: Desk<A>>(
     ensures unread { OnErr result (W.failures writer.old < 2 ^ 63 → W.failures writer.new ≡ W.failures writer.old → (input : List ℕ) → S.left reader.old input →
         Unread D.step desk.old desk.new (W.taken writer.old) (W.taken writer.new) input) }
     ensures cause { HasCause (S.failures reader.old + W.failures writer.old) (S.failures reader.new + W.failures writer.new) result }
+    ensures line_room { 65536 ≤ vec_capacity line.new }
+    ensures text_room { 65536 ≤ vec_capacity text.new }
 {
     let mut buffer = Buffer::new();
     'session: loop {
@@ -72,13 +74,40 @@ fn run_session<S: Source, W: Sink, A: Allocator, D: Desk<A>>(
     }
 }
 
-/// Room for a line, and for the text of a load or a post.
-fn rooms<A: Allocator + Copy>(alloc: A) -> Result<(Vec<u8, A>, Vec<u8, A>), AllocError>
-    ensures { IfOk result (λ rooms. (65536 ≤ vec_capacity rooms.0) × (65536 ≤ vec_capacity rooms.1)) }
+/// The memory of a session: room for a line, and for the text of a load or a post. One session after another can have it.
+#[derive(Drop)]
+pub struct Rooms<A: Allocator> {
+    line: Vec<u8, A>,
+    text: Vec<u8, A>,
+    ghost line_room: { 65536 ≤ vec_capacity line },
+    ghost text_room: { 65536 ≤ vec_capacity text },
+}
+
+impl<A: Allocator + Copy> Rooms<A> {
+    /// Takes the memory of a session. An `Err` is E01.
+    pub fn new(alloc: A) -> Result<Rooms<A>, AllocError> {
+        let line = Vec::with_capacity(alloc, 65536)?;
+        let text = Vec::with_capacity(alloc, 65536)?;
+        Ok(Rooms { line, text })
+    }
+}
+
+/// Serves a session as [`serve`] does, in memory that was taken before. An `Err` is E25.
+pub fn serve_in<S: Source, W: Sink, A: Allocator, D: Desk<A>>(
+    rooms: &mut Rooms<A>,
+    reader: &mut S,
+    writer: &mut W,
+    desk: &mut D,
+) -> Result<Ended, Failed>
+    ensures served { IfOk result (λ how. (input : List ℕ) → S.left reader.old input →
+        Served D.step desk.old desk.new (W.taken writer.old) (W.taken writer.new) how input) }
+    ensures broken { OnErr result ((input : List ℕ) → S.left reader.old input →
+        Broken D.step desk.old desk.new (W.taken writer.old) (W.taken writer.new) input) }
+    ensures unread { OnErr result (W.failures writer.old < 2 ^ 63 → W.failures writer.new ≡ W.failures writer.old → (input : List ℕ) → S.left reader.old input →
+        Unread D.step desk.old desk.new (W.taken writer.old) (W.taken writer.new) input) }
+    ensures cause { HasCause (S.failures reader.old + W.failures writer.old) (S.failures reader.new + W.failures writer.new) result }
 {
-    let line = Vec::with_capacity(alloc, 65536)?;
-    let text = Vec::with_capacity(alloc, 65536)?;
-    Ok((line, text))
+    run_session(&mut rooms.line, &mut rooms.text, reader, writer, desk)
 }
 
 /// Serves a session: reads commands until `quit` or the end of the input, has each right one carried out by the desk, and
@@ -101,10 +130,10 @@ pub fn serve<S: Source, W: Sink, A: Allocator + Copy, D: Desk<A>>(
         S.failures reader.old + W.failures writer.old < S.failures reader.new + W.failures writer.new }
     ensures memory { IsErrOf result ServeFault.NoMemory → (reader.new ≡ reader.old) × (writer.new ≡ writer.old) × (desk.new ≡ desk.old) }
 {
-    let Ok((mut line, mut text)) = rooms(alloc) else {
+    let Ok(mut rooms) = Rooms::new(alloc) else {
         return Err(ServeFault::NoMemory);
     };
-    match run_session(&mut line, &mut text, reader, writer, desk) {
+    match serve_in(&mut rooms, reader, writer, desk) {
         Ok(how) => Ok(how),
         Err(_) => Err(ServeFault::Device),
     }
