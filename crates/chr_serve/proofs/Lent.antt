@@ -1,5 +1,5 @@
 -- Sessions whose desk is seen as what it has.
-use Rattle.std.specs.Prelude.{◌≡◌, ℕ, List, [], ◌∷◌, Result, Ok, Err, IfOk}
+use Rattle.std.specs.Prelude.{◌≡◌, ℕ, List, [], ◌∷◌, Result, Ok, Err, IfOk, OnErr}
 use Rattle.std.proofs.Common.{ap}
 use Rattle.chr_session.specs.declared.commands.Ended.{Ended}
 use Rattle.chr_session.specs.Commands.{Command, Spelled, Blank, Right, Faulty, Reply}
@@ -30,3 +30,7 @@ broken_seen a b S T see goes before after input s =
 pub ok_seen : {X E : Type 0} (P Q : X → Type 0) (r : Result X E) → ((x : X) → P x → Q x) → IfOk r P → IfOk r Q
 ok_seen P Q (Ok x) goes p = goes x p
 ok_seen P Q (Err e) goes p = p
+
+pub err_seen : {X E : Type 0} (P Q : Type 0) (r : Result X E) → (P → Q) → OnErr r P → OnErr r Q
+err_seen P Q (Ok x) goes p = p
+err_seen P Q (Err e) goes p = goes p

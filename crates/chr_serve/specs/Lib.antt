@@ -1,2 +1,3 @@
+pub mod Outlooks
 pub mod Refusals
 pub mod Sessions

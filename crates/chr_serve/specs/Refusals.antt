@@ -1,9 +1,6 @@
--- What a connection is told that has no session.
+-- What a connection is told that finds no seat.
 use Rattle.std.specs.Prelude.{ℕ, List, codes}
-use Rattle.chr_serve.specs.declared.refusal.Refusal.{Refusal}
-use Rattle.chr_serve.specs.declared.refusal.Refusal.TheVariants.{NoSeat, NoMemory}
 
--- the line of a refusal
-abbrev pub refusal_line : Refusal → List ℕ
-refusal_line NoSeat = codes "fault E18 NoSeat\n"
-refusal_line NoMemory = codes "fault E01 NoMemory\n"
+-- the line of E18
+abbrev pub no_seat_line : List ℕ
+no_seat_line = codes "fault E18 NoSeat\n"

@@ -27,13 +27,8 @@ enum Slot {
 #[derive(Drop)]
 struct Live<A: Allocator> {
     slots: Slab<Slot, A>,
-    /// How many there may be: one for each thread that serves.
-    most: usize,
-    /// How many have been closed.
-    ended: u64,
     /// No connection comes any more.
     closed: bool,
-    ghost seats: { most ≤ 16 },
     ghost few: { slab_len slots ≤ 16 },
     ghost room: { 16 ≤ slots.capacity },
 }
@@ -41,25 +36,22 @@ struct Live<A: Allocator> {
 impl<A: Allocator> Live<A> {
     /// No connection. An `Err` is E01.
     fn new(alloc: A) -> Result<Live<A>, AllocError>
-        ensures none { IfOk result (λ live. slab_len live.slots ≡ 0) }
-        ensures most { IfOk result (λ live. live.most ≡ 16) }
+        ensures { IfOk result (λ live. slab_len live.slots ≡ 0) }
     {
         Ok(Live {
             slots: Slab::with_capacity(alloc, SESSION_SEATS)?,
-            most: SESSION_SEATS,
-            ended: 0,
             closed: false,
         })
     }
 
-    /// Adds a connection that waits. It comes back where there are as many as may be.
+    /// Adds a connection that waits. It comes back where sixteen live.
     fn add(&mut self, stream: UnixStream) -> Result<(), UnixStream>
         ensures added { OnOk result (slab_len self.new.slots ≡ slab_len self.old.slots + 1) }
-        ensures most { OnOk result (slab_len self.new.slots ≤ self.old.most) }
-        ensures full { OnErr result ((self.old.most ≤ slab_len self.old.slots) × (self.new ≡ self.old)) }
+        ensures most { OnOk result (slab_len self.new.slots ≤ 16) }
+        ensures full { OnErr result ((slab_len self.old.slots ≡ 16) × (self.new ≡ self.old)) }
         ensures back { IfErr result (λ s. s ≡ stream) }
     {
-        if self.slots.len() >= self.most {
+        if self.slots.len() >= SESSION_SEATS {
             return Err(stream);
         }
         self.slots.insert_reserved(Slot::Waiting(stream));
@@ -101,9 +93,7 @@ impl<A: Allocator> Live<A> {
         ensures gone { get self.new.slots key ≡ None }
         ensures live { slab_len self.new.slots ≤ slab_len self.old.slots }
     {
-        if self.slots.try_remove(key).is_some() {
-            self.ended = self.ended.saturating_add(1);
-        }
+        self.slots.try_remove(key);
     }
 }
 
@@ -116,19 +106,13 @@ pub struct Connections<A: Allocator> {
 }
 
 impl<A: Allocator> Connections<A> {
-    /// No connection yet, and as many as there are seats for sessions may come. An `Err` is E01.
+    /// No connection yet. An `Err` is E01.
     pub fn new(alloc: A) -> Result<Connections<A>, AllocError> {
         Ok(Connections {
             live: Mutex::new(Live::new(alloc)?),
             came: Condvar::new(),
             left: Condvar::new(),
         })
-    }
-
-    /// One connection less may come, since no thread is there to serve it.
-    pub fn withhold<R: Wait>(&self, rt: &R) {
-        let mut live = self.live.lock(rt);
-        live.most = live.most.saturating_sub(1);
     }
 
     /// Adds a connection that waits. It comes back where no seat is free.
@@ -160,18 +144,17 @@ impl<A: Allocator> Connections<A> {
         self.left.notify_all();
     }
 
-    /// Sleeps until a connection is closed, but not for longer than a tenth of a second, and answers how many had been closed
-    /// before. None, without a sleep, where none lives, and none has been closed since there were `seen`.
-    pub fn pause<R: Wait + Clock>(&self, rt: &R, seen: u64) -> Option<u64> {
+    /// Sleeps until a connection is closed, but not for longer than a tenth of a second.
+    pub fn pause<R: Wait + Clock>(&self, rt: &R) {
         let live = self.live.lock(rt);
-        let ended = live.ended;
-        if ended == seen && live.slots.is_empty() {
-            return None;
-        }
         let _ = self
             .left
             .wait_timeout(rt, live, Duration::from_millis(PAUSE));
-        Some(ended)
+    }
+
+    /// Returns whether no connection lives.
+    pub fn is_empty<R: Wait>(&self, rt: &R) -> bool {
+        self.live.lock(rt).slots.is_empty()
     }
 
     /// No connection comes any more: threads that wait for one end. Sleeps until none lives.

@@ -1,16 +1,15 @@
 //! A session of a place.
-ghost use Rattle.std.specs.Prelude.{◌≡◌, ℕ, List, IfOk, IsErrOf};
+ghost use Rattle.std.specs.Prelude.{◌≡◌, ℕ, List, IfOk, OnErr, IsErrOf};
 ghost use Rattle.chr_pool.specs.Inlets.{inlet_id};
 ghost use Rattle.chr_session.specs.Sessions.{Served, Broken};
 ghost use Rattle.chr_serve.specs.Sessions.{SharedStep};
 
 use crate::patient::WhileConnected;
-use crate::refusal::{Refusal, refuse};
 use crate::unread::discard_unread;
 use chr_crew::Place;
 use chr_pool::Inlet;
 use chr_seats::{PostLedger, Seat};
-use chr_session::{Ended, ServeFault, Sink, Source, Stream, serve};
+use chr_session::{Ended, Failed, Rooms, ServeFault, Sink, Source, Stream, serve, serve_in};
 use chr_shared::Shared;
 use chr_shared_desk::{LentDesk, Patience, SharedDesk};
 use std::alloc::Allocator;
@@ -42,8 +41,8 @@ pub fn serve_at<S: Source, W: Sink, R: Wait, L1: PostLedger, L2: Ledger, A: Allo
     (Place { seat, inlet }, ended)
 }
 
-/// Serves a session by a desk whose seat and inlet are lent to it. E25 and E01 come as in
-/// [`serve`](chr_session::serve).
+/// Serves a session by a desk whose seat and inlet are lent to it, in memory that was taken before. An `Err` is E25, as in
+/// [`serve_in`].
 pub fn serve_lent<
     S: Source,
     W: Sink,
@@ -53,27 +52,28 @@ pub fn serve_lent<
     A: Allocator + Copy,
     P: Patience + Drop,
 >(
-    alloc: A,
+    rooms: &mut Rooms<A>,
     desk: &mut LentDesk<'_, R, L1, L2, A, P>,
     reader: &mut S,
     writer: &mut W,
-) -> Result<Ended, ServeFault>
+) -> Result<Ended, Failed>
     ensures served { IfOk result (λ how. (input : List ℕ) → S.left reader.old input →
         Served SharedStep (desk.old.seat.now, inlet_id desk.old.inlet.now) (desk.new.seat.now, inlet_id desk.new.inlet.now) (W.taken writer.old) (W.taken writer.new) how input) }
-    ensures broken { IsErrOf result ServeFault.Device → (input : List ℕ) → S.left reader.old input →
-        Broken SharedStep (desk.old.seat.now, inlet_id desk.old.inlet.now) (desk.new.seat.now, inlet_id desk.new.inlet.now) (W.taken writer.old) (W.taken writer.new) input }
+    ensures broken { OnErr result ((input : List ℕ) → S.left reader.old input →
+        Broken SharedStep (desk.old.seat.now, inlet_id desk.old.inlet.now) (desk.new.seat.now, inlet_id desk.new.inlet.now) (W.taken writer.old) (W.taken writer.new) input) }
 {
-    serve(alloc, reader, writer, desk)
+    serve_in(rooms, reader, writer, desk)
 }
 
-/// Serves a connection by a seat and an inlet. A `wait` ends soon after its client has gone. A connection whose session has
-/// no memory is told so. What a client has sent behind the end of its session is read away.
+/// Serves a connection by a seat and an inlet. A `wait` ends soon after its client has gone. What a client has sent behind
+/// the end of its session is read away.
 pub(crate) fn serve_stream<R: Wait, L1: PostLedger, L2: Ledger, A: Allocator + Copy>(
     rt: &R,
     alloc: A,
     shared: &Shared<L1, L2, A>,
     seat: &mut Seat<L1, L2>,
     inlet: &mut Inlet<u64>,
+    rooms: &mut Rooms<A>,
     stream: &UnixStream,
 ) {
     let mut reader = Stream::new(stream);
@@ -86,10 +86,7 @@ pub(crate) fn serve_stream<R: Wait, L1: PostLedger, L2: Ledger, A: Allocator + C
         inlet,
         patience: WhileConnected { stream },
     };
-    let ended = serve_lent(alloc, &mut desk, &mut reader, &mut writer);
-    if matches!(ended, Err(ServeFault::NoMemory)) {
-        // Its client may be gone already.
-        let _ = refuse(&mut writer.inner, Refusal::NoMemory);
-    }
+    // Where the connection failed, its client has gone.
+    let _ = serve_lent(rooms, &mut desk, &mut reader, &mut writer);
     discard_unread(stream);
 }

@@ -1,6 +1,9 @@
 //! `chr serve`.
+ghost use Rattle.std.specs.Prelude.{◌≡◌, ◌≤◌};
+
+use crate::masked::Masked;
 use chr_commands::{Detail, Status, report_failure, report_no_memory};
-use chr_serve::{ServerFault, serve_on};
+use chr_serve::{Ready, ServerFault, serve_on};
 use std::fmt::{Display, Formatter};
 use std::net::Net;
 use std::os::unix::fs::{FileTypeExt, MetadataExt};
@@ -47,7 +50,7 @@ pub struct Taken<'p> {
 
 impl Display for Taken<'_> {
     fn fmt<W: fmt::Write>(&self, f: &mut Formatter<W>) -> fmt::Result {
-        let path = self.path;
+        let path = Masked(self.path);
         if self.by_socket {
             write!(
                 f,
@@ -62,7 +65,7 @@ impl Display for Taken<'_> {
     }
 }
 
-/// What is told once clients can connect.
+/// What is told once a server can serve: where it listens, and how many workers were started.
 #[derive(Clone, Copy)]
 pub struct Listening<'p> {
     pub path: &'p str,
@@ -71,10 +74,37 @@ pub struct Listening<'p> {
 
 impl Display for Listening<'_> {
     fn fmt<W: fmt::Write>(&self, f: &mut Formatter<W>) -> fmt::Result {
-        let Listening { path, workers } = self;
-        let noun = if *workers == 1 { "worker" } else { "workers" };
+        let path = Masked(self.path);
+        let workers = self.workers;
+        let noun = if workers == 1 { "worker" } else { "workers" };
         write!(f, "chr: listening on {path} with {workers} {noun}")
     }
+}
+
+/// Writes to standard error that a server can serve, once it can.
+#[derive(Clone, Copy)]
+struct Announcer<'a, R: Eprint> {
+    rt: &'a R,
+    path: &'a str,
+    /// How many workers were asked for.
+    workers: usize,
+}
+
+impl<R: Eprint> Ready for Announcer<'_, R> {
+    ghost can_tell = { λ announcer workers. workers ≡ announcer.workers };
+
+    fn tell(&self, workers: usize) {
+        let path = self.path;
+        let _ = eprintln!(self.rt; "{}", Listening { path, workers });
+    }
+}
+
+/// Returns how many workers are started where so many are asked for: at least 1, and at most 16.
+fn worker_count(asked: u32) -> usize
+    ensures range { (1 ≤ result) × (result ≤ 16) }
+    ensures asked { 1 ≤ asked → asked ≤ 16 → result ≡ asked }
+{
+    asked.clamp(1, 16) as usize
 }
 
 /// Writes to standard error why no socket could be made at a path.
@@ -93,7 +123,9 @@ fn report_refusal<R: Files + Eprint>(
 }
 
 /// Makes a socket at the path, serves sessions over it with 1 to 16 workers (another number is brought into this range),
-/// and removes the socket's file at the end. With `sessions` the end comes after so many connections.
+/// and removes the socket's file at the end. With `sessions` the end comes after so many connections. That it listens is
+/// written to standard error once all threads run and the memory of all sessions is taken; where one of these is refused,
+/// that is E01, and nothing else is written.
 pub fn serve<R: Files + Net + Threads + Wait + Sync + Clock + Eprint + AllocGlobal>(
     rt: &R,
     detail: Detail,
@@ -101,14 +133,22 @@ pub fn serve<R: Files + Net + Threads + Wait + Sync + Clock + Eprint + AllocGlob
     workers: u32,
     sessions: Option<u32>,
 ) -> Status {
-    let workers = workers.clamp(1, 16) as usize;
+    let workers = worker_count(workers);
     let listener = match UnixListener::bind(rt, path) {
         Ok(listener) => listener,
         Err(error) => return report_refusal(rt, detail, path, &error),
     };
     let made = socket_at(rt, path);
-    let _ = eprintln!(rt; "{}", Listening { path, workers });
-    let served = serve_on(rt, rt.alloc(), rt.alloc(), &listener, workers, sessions);
+    let announcer = Announcer { rt, path, workers };
+    let served = serve_on(
+        rt,
+        rt.alloc(),
+        rt.alloc(),
+        &listener,
+        &announcer,
+        workers,
+        sessions,
+    );
     let removed = remove(rt, path, made);
     match (served, removed) {
         (Ok(()), Ok(())) => Status::Done,

@@ -2,9 +2,9 @@
 mod client;
 mod failing;
 mod long;
-mod refused;
 mod sessions;
 mod socket;
+mod starting;
 mod unread;
 mod vanishing;
 mod workers;

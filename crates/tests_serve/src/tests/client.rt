@@ -1,17 +1,18 @@
 //! Servers in a process of their clients, and these clients.
-ghost use Rattle.std.specs.Prelude.{◌≤◌};
+ghost use Rattle.std.specs.Prelude.{◌≤◌, ⊤};
 ghost use denote.Param.Send.{IsSend, IsSync, Frees};
 
 use chr_check::Verdict;
 use chr_check_text::check_text;
-use chr_serve::serve_on;
+use chr_serve::{Listener, Ready, ServerFault, serve_on};
 use std::alloc::{AllocError, AllocGlobal, Allocator, Global};
 use std::fs::Files;
-use std::io::{self, BufRead, BufReader, Write};
+use std::io::{self, BufRead, BufReader, ErrorKind, Write};
 use std::net::Net;
 use std::os::unix::net::{SocketAddr, UnixListener, UnixStream};
 use std::rt::Clock;
 use std::sync::Wait;
+use std::sync::atomic::{AtomicU64, Ordering};
 use std::thread;
 use std::thread::Threads;
 
@@ -118,6 +119,15 @@ pub fn listen<R: Files + Net>(rt: &R) -> io::Result<(UnixListener, SocketAddr)> 
     Ok((listener, address))
 }
 
+/// Whom it makes no difference when a server can serve.
+pub struct Anybody;
+
+impl Ready for Anybody {
+    ghost can_tell = { λ _ _. ⊤ };
+
+    fn tell(&self, _workers: usize) {}
+}
+
 /// What clients find beside a server that takes so many connections. None where it ends with a fault.
 pub fn found_beside<
     R: Threads + Wait + Clock + Sync + AllocGlobal,
@@ -130,8 +140,72 @@ pub fn found_beside<
 {
     let serve = || -> bool
         requires { IsSync R.row × IsSend A.row × IsSync A.row × Frees A.Allocator A.dealloc_token × (1 ≤ workers) × (workers ≤ 16) }
-    { serve_on(rt, alloc, rt.alloc(), listener, workers, Some(sessions)).is_ok() };
+    {
+        serve_on(
+            rt,
+            alloc,
+            rt.alloc(),
+            listener,
+            &Anybody,
+            workers,
+            Some(sessions),
+        )
+        .is_ok()
+    };
     let (ended, found) = thread::join(rt, serve, talk);
+    ended.then_some(found)
+}
+
+/// A listener that fails for good once it is told to.
+#[derive(Drop)]
+struct Closable<'l> {
+    listener: &'l UnixListener,
+    /// 1 once it is told to.
+    closed: &'l AtomicU64,
+}
+
+impl Listener for Closable<'_> {
+    fn next_connection(&self) -> io::Result<UnixStream> {
+        if self.closed.load(Ordering::SeqCst) == 0 {
+            let stream = self.listener.next_connection()?;
+            if self.closed.load(Ordering::SeqCst) == 0 {
+                return Ok(stream);
+            }
+        }
+        Err(ErrorKind::Other.into())
+    }
+}
+
+/// What clients find beside a server that takes connections until they are done. None where it ends otherwise.
+pub fn found_until<
+    R: Files + Net + Threads + Wait + Clock + Sync + AllocGlobal,
+    T: Drop,
+    F: FnOnce(&SocketAddr) -> T,
+>(rt: &R, workers: usize, talk: F) -> Option<T>
+    requires workers { (1 ≤ workers) × (workers ≤ 16) }
+    requires talk { F.IsAlwaysCallable talk }
+{
+    let (listener, address) = listen(rt).ok()?;
+    let listener = &listener;
+    let address = &address;
+    let flag = AtomicU64::new(0);
+    let closed = &flag;
+    let serve = || -> bool
+        requires { IsSync R.row × (1 ≤ workers) × (workers ≤ 16) }
+    {
+        let closable = Closable { listener, closed };
+        let alloc = rt.alloc();
+        let ended = serve_on(rt, alloc, alloc, &closable, &Anybody, workers, None);
+        matches!(ended, Err(ServerFault::Listener(_)))
+    };
+    let talk_and_close = || {
+        let found = talk(address);
+        closed.store(1, Ordering::SeqCst);
+        // A server that waits for a connection gets one, and finds that the listener is closed.
+        let _ = UnixStream::connect_addr(rt, address);
+        found
+    };
+    let (ended, found) = thread::join(rt, serve, talk_and_close);
     ended.then_some(found)
 }
 
@@ -252,9 +326,9 @@ impl Client {
         }
     }
 
-    /// A new connection to a server that may not listen yet. None where it doesn't begin to.
+    /// A new connection to a server that may not listen yet. It is tried until it does.
     pub fn connect_at<R: Net + AllocGlobal>(rt: &R, path: &str) -> Option<Client> {
-        for _ in 0..1_000_000 {
+        for _ in 0..u64::MAX {
             if let Ok(stream) = UnixStream::connect(rt, path) {
                 return Client::over(rt.alloc(), stream);
             }
@@ -306,11 +380,16 @@ impl Client {
         self.plays(&[("quit\n", "bye\n"), ("", "")])
     }
 
-    /// Whether no ticket is open after at most a thousand waits.
+    /// Waits until no ticket is open. Whether each wait before was answered `open`.
     pub fn becomes_quiet(&mut self) -> bool {
-        for _ in 0..1000 {
-            if self.replies("wait 1000000\n", "quiet\n") {
-                return true;
+        for _ in 0..u64::MAX {
+            if !self.tell("wait 1000000\n") {
+                return false;
+            }
+            match self.reply() {
+                Ok("quiet\n") => return true,
+                Ok("open\n") => {}
+                _ => return false,
             }
         }
         false

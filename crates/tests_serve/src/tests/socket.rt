@@ -1,5 +1,6 @@
 //! The socket of a server: its file, and what is said of it.
 use crate::tests::client::Client;
+use crate::tests::workers::work_at_once;
 use chr_commands::{Detail, Status};
 use chr_socket::serve::{Listening, Taken, serve};
 use std::alloc::{AllocGlobal, Global};
@@ -13,7 +14,7 @@ use std::test::*;
 use std::thread::Threads;
 use std::{env, fs, io, process, thread};
 
-/// How a server of one session ends.
+/// How a server of one worker and one session ends.
 fn served<R: Files + Net + Threads + Wait + Sync + Clock + Eprint + AllocGlobal>(
     rt: &R,
     path: &str,
@@ -60,6 +61,20 @@ fn a_socket_is_removed_at_the_end(rt: HostRuntime) -> Result<(), Fail> {
     let (status, left) = thread::join(&rt, || served(&rt, path), || leaves(&rt, path, false));
     assert!(rt; status == Status::Done && left);
     assert!(rt; matches!(fs::exists(&rt, path), Ok(false)));
+    Ok(())
+}
+
+#[test]
+fn sixteen_workers_work_at_once(rt: HostRuntime) -> Result<(), Fail> {
+    let path = socket_path(&rt, "sixteen")?;
+    let path = path.as_str();
+    let (status, at_once) = thread::join(
+        &rt,
+        || serve(&rt, Detail::Line, path, 16, Some(1)),
+        || work_at_once(Client::connect_at(&rt, path), 16),
+    );
+    // It ends, though the long goals don't.
+    assert!(rt; status == Status::Done && at_once);
     Ok(())
 }
 
@@ -145,6 +160,30 @@ fn sentences_on_listening(rt: HostRuntime) {
         let told = is_displayed(rt.alloc(), Listening { path, workers }, wanted);
         assert!(rt; told, "{workers}");
     }
+}
+
+/// A path with control characters and one letter outside ASCII, and how it is told.
+const STRANGE: &str = "a\u{1b}[2J\tb\nc\u{9b}\u{7f}\u{e9}.sock";
+
+const STRANGE_IS_TOLD: &str = "a?[2J b?c??\u{e9}.sock";
+
+#[test]
+fn control_characters_of_paths_are_masked(rt: HostRuntime) -> Result<(), Fail> {
+    let path = STRANGE;
+    let listening = format!(in rt.alloc(); "chr: listening on {STRANGE_IS_TOLD} with 2 workers")?;
+    assert!(rt;
+        is_displayed(
+            rt.alloc(),
+            Listening { path, workers: 2 },
+            listening.as_str()
+        )
+    );
+    for (by_socket, _) in TAKEN {
+        let told = format!(in rt.alloc(); "{}", Taken { path, by_socket })?;
+        let starts = format!(in rt.alloc(); "chr: {STRANGE_IS_TOLD}: a ")?;
+        assert!(rt; told.starts_with(starts.as_str()), "{by_socket}");
+    }
+    Ok(())
 }
 
 #[test]

@@ -1,14 +1,14 @@
 //! Clients that vanish, that send what is no command, and that never read.
-use crate::tests::client::{Client, LOAD, connect_all, found_at, is_added, plays};
+use crate::tests::client::{
+    Client, LOAD, connect_all, found_at, found_until, is_added, listen, plays,
+};
 use std::alloc::AllocGlobal;
+use std::fs::Files;
 use std::io::{self, Write};
 use std::net::Net;
 use std::os::fd::AsRawFd;
 use std::os::unix::net::{SocketAddr, UnixStream};
-use std::rt::Clock;
 use std::test::*;
-use std::thread;
-use std::time::Duration;
 
 /// The number that the system gives the next descriptor: the least that is free.
 fn next_descriptor<R: Net>(rt: &R) -> Option<i32> {
@@ -92,7 +92,7 @@ fn open_and_cut<R: Net>(rt: &R, address: &SocketAddr, count: u32) -> io::Result<
     Ok(())
 }
 
-/// A new client with a seat, whose `wait 0` has this reply.
+/// A new client with a seat, whose `wait 0` has this reply. None where it finds no seat.
 fn seated<R: Net + AllocGlobal>(rt: &R, address: &SocketAddr, reply: &str) -> Option<Client> {
     match Client::connect(rt, address) {
         Some(mut client) => client.replies("wait 0\n", reply).then_some(client),
@@ -100,83 +100,67 @@ fn seated<R: Net + AllocGlobal>(rt: &R, address: &SocketAddr, reply: &str) -> Op
     }
 }
 
-/// How many milliseconds pass after a connection that found no seat.
-const PAUSE: u64 = 2;
-
-/// Such a client, after at most so many connections that found no seat, and how many are left of these.
-fn seated_at_last<R: Net + Clock + AllocGlobal>(
+/// Waits for a seat: connects again after each connection that finds none.
+fn seated_at_last<R: Net + AllocGlobal>(
     rt: &R,
     address: &SocketAddr,
-    most: u32,
     reply: &str,
-) -> (Option<Client>, u32) {
-    for left in (0..most).rev() {
+) -> Option<Client> {
+    for _ in 0..u64::MAX {
         let client = seated(rt, address, reply);
         if client.is_some() {
-            return (client, left);
+            return client;
         }
-        thread::sleep(rt, Duration::from_millis(PAUSE));
     }
-    (None, 0)
+    None
 }
 
-/// How many connections are made in all.
-const ALL: u32 = 30_000;
-
-/// How many of them are opened and cut at first.
+/// How many connections are opened and cut.
 const CUT: u32 = 10_000;
 
-/// Adds up to sixteen clients that find a seat, after at most so many connections. How many of these are left.
-fn add_seated<R: Net + Clock + AllocGlobal>(
-    rt: &R,
-    address: &SocketAddr,
-    most: u32,
-    clients: &mut Vec<Client>,
-) -> u32 {
-    let mut most = most;
-    for _ in 0..16 {
-        let (client, left) = seated_at_last(rt, address, most, "quiet\n");
-        most = left;
-        is_added(clients, client);
-    }
-    most
-}
-
-/// How many of sixteen clients find a seat, by how much the next descriptor's number has risen while they have it, and how
-/// many connections are left.
-fn seats<R: Net + Clock + AllocGlobal>(
-    rt: &R,
-    address: &SocketAddr,
-    before: i32,
-) -> (usize, i32, u32) {
-    let most = ALL.wrapping_sub(CUT).wrapping_sub(1);
+/// Waits for sixteen seats. The number of the next descriptor while clients have them.
+fn next_beside_sixteen<R: Net + AllocGlobal>(rt: &R, address: &SocketAddr) -> Option<i32> {
     let mut clients = Vec::new(rt.alloc());
-    let left = add_seated(rt, address, most, &mut clients);
-    let next = next_descriptor(rt).unwrap_or(i32::MAX);
-    (clients.len(), next.wrapping_sub(before), left)
+    for _ in 0..16 {
+        if !is_added(&mut clients, seated_at_last(rt, address, "quiet\n")) {
+            return None;
+        }
+    }
+    // Each of the sixteen threads has a session now, so it has closed those before.
+    next_descriptor(rt)
 }
 
-/// The first two of these after a client has loaded and ten thousand were cut.
-fn seats_after<R: Net + Clock + AllocGlobal>(rt: &R, address: &SocketAddr) -> Option<(usize, i32)> {
+/// The same after a client has loaded and ten thousand connections were cut.
+fn next_after_cuts<R: Net + AllocGlobal>(rt: &R, address: &SocketAddr) -> Option<i32> {
     let loads = plays(rt, address, &[(LOAD, "loaded 2\n")]);
-    let before = next_descriptor(rt)?;
     open_and_cut(rt, address, CUT).ok()?;
-    let (seats, rise, left) = seats(rt, address, before);
-    open_and_cut(rt, address, left).ok()?;
-    loads.then_some((seats, rise))
+    let next = next_beside_sixteen(rt, address)?;
+    loads.then_some(next)
+}
+
+/// The number of the next descriptor beside a listener and sixteen connections, of which both ends are open.
+fn next_beside_pairs<R: Files + Net + AllocGlobal>(rt: &R) -> Option<i32> {
+    let (_listener, _) = listen(rt).ok()?;
+    let mut pairs = Vec::new(rt.alloc());
+    for _ in 0..16 {
+        pairs.push(UnixStream::pair(rt).ok()?).ok()?;
+    }
+    next_descriptor(rt)
 }
 
 #[test]
 fn nothing_is_left_of_ten_thousand_connections(rt: HostRuntime) {
     let before = next_descriptor(&rt);
-    let found = found_at(&rt, 2, ALL, |address| seats_after(&rt, address));
-    // Both ends of sixteen connections, and the few that the server is taking or refusing at that moment.
-    assert!(rt; matches!(found, Some(Some((16, ..=40)))), "{found:?}");
+    let beside_pairs = next_beside_pairs(&rt);
+    let found = found_until(&rt, 2, |address| next_after_cuts(&rt, address));
+    let more = match (found, beside_pairs) {
+        (Some(Some(found)), Some(beside_pairs)) => found.wrapping_sub(beside_pairs),
+        _ => -1,
+    };
+    // The system keeps a number for the connection that a server waits for, once it does.
+    assert!(rt; matches!(more, 0 | 1), "{found:?} {beside_pairs:?}");
     assert_eq!(rt; next_descriptor(&rt), before);
 }
-
-/// How many connections are made beside a run that doesn't end.
-const BESIDE: u32 = 2000;
 
 /// Whether a client can wait for a run without an end. It goes away then.
 fn waits<R: Net + AllocGlobal>(rt: &R, address: &SocketAddr) -> bool {
@@ -191,25 +175,17 @@ fn waits<R: Net + AllocGlobal>(rt: &R, address: &SocketAddr) -> bool {
     }
 }
 
-/// Whether the seat comes back, while fifteen others are out, of a client that went away in a long `wait`, and how many
-/// connections are left.
-fn seat_after_wait<R: Net + Clock + AllocGlobal>(rt: &R, address: &SocketAddr) -> (bool, u32) {
+/// Whether the seat comes back, while fifteen others are out, of a client that went away in a long `wait`.
+fn seat_comes_back<R: Net + AllocGlobal>(rt: &R, address: &SocketAddr) -> bool {
     let mut others = Vec::new(rt.alloc());
-    let connect = connect_all(rt, address, 15, &mut others);
-    let waits = waits(rt, address);
-    let (client, left) = seated_at_last(rt, address, BESIDE.wrapping_sub(16), "open\n");
-    (connect && waits && client.is_some(), left)
-}
-
-/// The first of these, before the connections that are left.
-fn seat_comes_back<R: Net + Clock + AllocGlobal>(rt: &R, address: &SocketAddr) -> bool {
-    let (comes_back, left) = seat_after_wait(rt, address);
-    open_and_cut(rt, address, left).is_ok() && comes_back
+    connect_all(rt, address, 15, &mut others)
+        && waits(rt, address)
+        && seated_at_last(rt, address, "open\n").is_some()
 }
 
 #[test]
 fn a_seat_comes_back_after_a_wait(rt: HostRuntime) {
-    let found = found_at(&rt, 2, BESIDE, |address| seat_comes_back(&rt, address));
+    let found = found_until(&rt, 2, |address| seat_comes_back(&rt, address));
     // The server ends, though the run doesn't.
     assert_eq!(rt; found, Some(true));
 }

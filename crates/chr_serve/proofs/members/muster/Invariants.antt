@@ -20,6 +20,7 @@ invariant-loop-seat g l =
     × (goal.iterator-loop-seat g).is_finite l.seat-iterator
     × (into_iter_len l.seat-iterator ≡ length left)
     × (length (into_iter_items l.inlets) ≡ length left)
+    × (length (into_iter_items l.memory) ≡ length left)
     × (vec_len l.members + length left ≡ length l.fn.hands.items + vec_len l.fn.inlets)
     × (vec_len l.members + vec_len l.workers + length left ≡ vec_len l.fn.workers + vec_len l.fn.sessions)
     × (vec_capacity l.members ≡ vec_capacity l.fn.room)
