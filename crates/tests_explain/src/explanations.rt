@@ -4,14 +4,14 @@ use chr_explain::{ExplainFault, Form, Question, explain_text};
 use std::alloc::Allocator;
 
 /// The rules and a log, a question, and what is shown.
-struct Row {
-    program: &'static [u8],
-    log: &'static [u8],
-    question: Question,
-    shown: &'static [u8],
+pub struct Row {
+    pub program: &'static [u8],
+    pub log: &'static [u8],
+    pub question: Question,
+    pub shown: &'static [u8],
 }
 
-static ROWS: [Row; 5] = [
+pub static ROWS: [Row; 5] = [
     Row {
         program: b"gcd(0) <=> true.\ngcd(N) \\ gcd(M) <=> 0 < N, N =< M | L is M mod N, gcd(L).\n",
         log: b"chr-log 2\nP 1 gcd(9)\nP 2 gcd(6)\nA 1 1\nD 1\nA 2 2\nF 2 2 2\\1\nD 2\nA 3 3\nF 3 2 3\\2\nD 3\nA 4 4\nF 4 1 \\4\n",
