@@ -85,6 +85,7 @@ pub(crate) fn serve_stream<R: Wait, L1: PostLedger, L2: Ledger, A: Allocator + C
         seat,
         inlet,
         patience: WhileConnected { stream },
+        looks: 0,
     };
     // Where the connection failed, its client has gone.
     let _ = serve_lent(rooms, &mut desk, &mut reader, &mut writer);

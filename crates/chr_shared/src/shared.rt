@@ -8,6 +8,7 @@ ghost use Rattle.chr_book.specs.Texts.{PostsText};
 ghost use Rattle.chr_seats.specs.Accounts.{AreNamed, AreSeats, IsAudited};
 ghost use Rattle.chr_seats.specs.Versions.{IsKnownAfter, IsKnownOf};
 ghost use Rattle.chr_seats.specs.Holds.{WasHold, MarksIn, TakesStrayIn};
+ghost use Rattle.chr_shared.specs.Installs.{WasInstall};
 
 use crate::sleepers::Sleepers;
 use chr_book::{Book, Posted};
@@ -144,17 +145,25 @@ impl<L1: PostLedger, L2: Ledger, A: Allocator + Copy> Shared<L1, L2, A> {
         Ok((Shared::over(kept), seats))
     }
 
-    /// Brings a book with an empty log. It comes back (E20) where one is there already.
-    pub fn install<R: Wait>(&self, rt: &R, book: Book<A>) -> Result<(), Book<A>>
+    /// Brings a book with an empty log. E26: then the book is let go. It comes back (E20) where one is there already.
+    pub fn install<R: Wait>(
+        &self,
+        rt: &R,
+        seat: &Seat<L1, L2>,
+        book: Book<A>,
+    ) -> Result<Result<(), Book<A>>, HoldFault>
         requires { book.log ≡ [] }
-        ensures { IfErr result (λ b. b ≡ book) }
+        ensures { WasInstall seat.now book result }
     {
-        let mut book = Some(book);
-        self.locked.lock(rt).kept.install(&mut book);
-        match book {
-            None => Ok(()),
-            Some(book) => Err(book),
+        let mut locked = self.locked.lock(rt);
+        match locked.kept.book_for(seat) {
+            Ok(_) => return Ok(Err(book)),
+            Err(HoldFault::WrongSeat) => return Err(HoldFault::WrongSeat),
+            Err(HoldFault::NoBook) => {}
         }
+        let mut book = Some(book);
+        locked.kept.install(&mut book);
+        Ok(Ok(()))
     }
 
     /// What is under the lock, once no other thread has it.

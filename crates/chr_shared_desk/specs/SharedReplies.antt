@@ -1,6 +1,6 @@
 -- What a desk over a shared book replies, and its seat before and after. What the book was at that
 -- moment is not known but by the reply: others work on it.
-use Rattle.std.specs.Prelude.{◌≡◌, ◌+◌, ◌-◌, ℕ, List, [], true, false, map, length, drop, Option, Some, None, Result, Ok, Err}
+use Rattle.std.specs.Prelude.{◌≡◌, ◌+◌, ◌-◌, ◌≤◌, ℕ, List, [], true, false, map, length, drop, Option, Some, None, Result, Ok, Err}
 use Rattle.chr_value.specs.declared.label.TheConstants.{GREATEST_LABEL}
 use Rattle.chr_lex.specs.declared.fault.ReadError.{ReadError}
 use Rattle.chr_lex.specs.declared.fault.ReadError.TheVariants as errors
@@ -13,6 +13,7 @@ use Rattle.chr_book.specs.declared.texts.Posted.{Posted as PostedTickets}
 use Rattle.chr_seats.specs.Accounts.{SeatState}
 use Rattle.chr_seats.specs.Holds.{MakesNoCall, Reads, WasHold, WasReading}
 use Rattle.chr_shared.specs.Readings.{SaysQuiet}
+use Rattle.chr_shared.specs.Installs.{WasInstall}
 use Rattle.chr_seats.specs.declared.answers.HoldFault.{HoldFault}
 use Rattle.chr_seats.specs.declared.answers.HoldFault.TheVariants.{WrongSeat, NoBook}
 use Rattle.chr_session.specs.declared.desk.Fault.{Fault as FaultKind}
@@ -26,25 +27,35 @@ WasRefused seat faults.WrongSeat = (book : Option BookState) × MakesNoCall book
 WasRefused seat faults.NoProgram = (book : Option BookState) × MakesNoCall book seat NoBook
 WasRefused seat other = ⊥
 
--- a book of the rules of a text, which are so many, was opened; that it is under the lock from then
--- on no clause says
-pub record IsLoaded (text : List ℕ) (count : ℕ) : Type 0 where
-  pub book : BookState
+-- a book was opened by a text, whose rules are so many
+pub record HasRulesOf (text : List ℕ) (book : BookState) (count : ℕ) : Type 0 where
   pub opens : IsOpenText text GREATEST_LABEL book
   pub count_is : count ≡ length opens.read.rules
 
--- a text is loaded, or it has a fault, or memory ran out, or a program stands already
-abbrev pub BringReplies : List ℕ → Reply → Type 0
-BringReplies text (Loaded count) = IsLoaded text count
-BringReplies text (Refused (faults.Reading fault)) = program_of [] text ≡ Err fault
-BringReplies text (Refused faults.NoMemory) = Unit {0}
-BringReplies text (Refused faults.AlreadyLoaded) = Unit {0}
-BringReplies text other = ⊥
+-- There was a hold before which there was no book, and after which there was one of the rules of a
+-- text, which are so many.
+pub record WasLoaded (seat : SeatState) (text : List ℕ) (count : ℕ) : Type 0 where
+  pub book : BookState
+  pub rules : HasRulesOf text book count
+  pub hold : WasInstall seat book (Ok (Ok tt))
 
--- before that the seat's counts are tested
+-- there was a hold in which a book was there, and the seat's counts were what it had made
+abbrev pub WasStanding : SeatState → Type 0
+WasStanding seat = (book : Option BookState) × Reads (λ b. Unit {0}) book seat
+
+-- a text that isn't read has a fault, or memory ran out
+abbrev pub ReadFaults : List ℕ → FaultKind → Type 0
+ReadFaults text (faults.Reading fault) = program_of [] text ≡ Err fault
+ReadFaults text faults.NoMemory = Unit {0}
+ReadFaults text other = ⊥
+
+-- a text is loaded, or isn't read, or a program stands already, or the seat's counts are others
 abbrev pub LoadReplies : SeatState → List ℕ → Reply → Type 0
+LoadReplies seat text (Loaded count) = WasLoaded seat text count
+LoadReplies seat text (Refused faults.AlreadyLoaded) = WasStanding seat
 LoadReplies seat text (Refused faults.WrongSeat) = WasRefused seat faults.WrongSeat
-LoadReplies seat text reply = BringReplies text reply
+LoadReplies seat text (Refused fault) = ReadFaults text fault
+LoadReplies seat text other = ⊥
 
 -- there was a hold in which the seat had this answer to its post of a text
 abbrev pub WasPost : SeatState → List ℕ → Result (Result PostedTickets ReadError) HoldFault →
@@ -115,3 +126,9 @@ pub record SharedReplies (old : SeatState) (command : Command) (reply : Reply) (
   pub number : new.number ≡ old.number
   pub posts : new.counts.posts ≡ old.counts.posts + posted_by reply
   pub others : new.counts.others ≡ old.counts.others
+
+-- how often the last wait looked at the book, before and after a command: a wait looks once more
+-- than it is told at most
+abbrev pub LooksSoOften : Command → ℕ → ℕ → Type 0
+LooksSoOften (Wait most) old new = new ≤ most + 1
+LooksSoOften other old new = new ≡ old

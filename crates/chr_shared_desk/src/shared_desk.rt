@@ -1,9 +1,11 @@
 //! The desk, and the replies to each command.
-ghost use Rattle.std.specs.Prelude.{◌≡◌, ◌+◌, ℕ, [], IfOk, IfErr};
+ghost use Rattle.std.specs.Prelude.{◌≡◌, ◌+◌, ◌≤◌, ℕ, List, [], IfOk, IfErr};
 ghost use Rattle.chr_pool.specs.Inlets.{inlet_id};
 ghost use Rattle.chr_session.specs.Commands.{Refused, reply_of, command_of};
-ghost use Rattle.chr_shared_desk.specs.SharedReplies.{IsLoaded, BringReplies, LoadReplies, PostReplies, WaitReplies, StoreReplies, LogReplies, SharedReplies, posted_by};
+ghost use Rattle.chr_shared_desk.specs.SharedReplies.{HasRulesOf, LoadReplies, ReadFaults, PostReplies, WaitReplies, StoreReplies, LogReplies, SharedReplies, LooksSoOften, posted_by};
 
+use crate::waiting::{Endless, Patience, wait};
+use crate::watching::Watch;
 use chr_book::Book;
 use chr_lex::fault::ReadError;
 use chr_pool::Inlet;
@@ -19,8 +21,8 @@ use std::sync::ledger::Ledger;
 /// A book of the rules of a text, and how many these are. E02 to E09 with their line for a text that has a fault, and E01.
 fn read_book<A: Allocator + Copy>(alloc: A, text: &[u8]) -> Result<(Book<A>, usize), Fault>
     ensures empty { IfOk result (λ r. r.0.log ≡ []) }
-    ensures loaded { IfOk result (λ r. IsLoaded text.now r.1) }
-    ensures fault { IfErr result (λ fault. BringReplies text.now (Refused fault)) }
+    ensures rules { IfOk result (λ r. HasRulesOf text.now r.0 r.1) }
+    ensures fault { IfErr result (λ fault. ReadFaults text.now fault) }
 {
     match Book::of_text(alloc, text, GREATEST_LABEL) {
         Ok(book) => {
@@ -32,41 +34,41 @@ fn read_book<A: Allocator + Copy>(alloc: A, text: &[u8]) -> Result<(Book<A>, usi
     }
 }
 
-/// Whether a book with an empty log is brought. Where one is there already, it is let go.
-fn is_brought<R: Wait, L1: PostLedger, L2: Ledger, A: Allocator + Copy>(
+/// Brings a book of the rules of a text, which are so many. E26, and E20 where one is there already.
+fn install<R: Wait, L1: PostLedger, L2: Ledger, A: Allocator + Copy>(
     rt: &R,
     shared: &Shared<L1, L2, A>,
+    seat: &Seat<L1, L2>,
     book: Book<A>,
-) -> bool
+    count: usize,
+) -> Reply<A>
     requires { book.log ≡ [] }
+    ensures { (text : List ℕ) → HasRulesOf text book count → LoadReplies seat.now text (reply_of result) }
 {
-    match shared.install(rt, book) {
-        Ok(()) => true,
-        Err(book) => {
-            drop(book);
-            false
-        }
+    match shared.install(rt, seat, book) {
+        Ok(Ok(())) => Reply::Loaded(count),
+        Ok(Err(_)) => Reply::Fault(Fault::AlreadyLoaded),
+        Err(HoldFault::WrongSeat) => Reply::Fault(Fault::WrongSeat),
+        Err(HoldFault::NoBook) => unreachable!(),
     }
 }
 
-/// Brings a book of the rules of a text. E20 where one is there already; else E02 to E09 with their line for a text that
-/// has a fault, and E01.
+/// Brings a book of the rules of a text. E02 to E09 with their line for a text that has a fault, and E01; then E26, and E20
+/// where a book is there already.
+#[tactic(auto, using(crate::proofs::Refusals::read_refused))]
 fn bring<R: Wait, L1: PostLedger, L2: Ledger, A: Allocator + Copy>(
     rt: &R,
     alloc: A,
     shared: &Shared<L1, L2, A>,
+    seat: &Seat<L1, L2>,
     text: &[u8],
 ) -> Reply<A>
-    ensures { BringReplies text.now (reply_of result) }
+    ensures { LoadReplies seat.now text.now (reply_of result) }
 {
-    let (book, count) = match read_book(alloc, text) {
-        Ok(read) => read,
-        Err(fault) => return Reply::Fault(fault),
-    };
-    if is_brought(rt, shared, book) {
-        return Reply::Loaded(count);
+    match read_book(alloc, text) {
+        Ok((book, count)) => install(rt, shared, seat, book, count),
+        Err(fault) => Reply::Fault(fault),
     }
-    Reply::Fault(Fault::AlreadyLoaded)
 }
 
 /// Brings a book of the rules of a text where none is there. E26; E20; then the faults of a text and E01.
@@ -82,7 +84,7 @@ fn load<R: Wait, L1: PostLedger, L2: Ledger, A: Allocator + Copy>(
     match shared.quiet(rt, seat) {
         Ok(_) => Reply::Fault(Fault::AlreadyLoaded),
         Err(HoldFault::WrongSeat) => Reply::Fault(Fault::WrongSeat),
-        Err(HoldFault::NoBook) => bring(rt, alloc, shared, text),
+        Err(HoldFault::NoBook) => bring(rt, alloc, shared, seat, text),
     }
 }
 
@@ -131,65 +133,22 @@ fn post<R: Wait, L1: PostLedger, L2: Ledger, A: Allocator + Copy>(
     }
 }
 
-/// Looks once whether a ticket is open.
-fn look<R: Wait, L1: PostLedger, L2: Ledger, A: Allocator + Copy>(
-    rt: &R,
-    shared: &Shared<L1, L2, A>,
-    seat: &Seat<L1, L2>,
-) -> Reply<A>
-    ensures { WaitReplies seat.now (reply_of result) }
-{
-    match shared.quiet(rt, seat) {
-        Ok(true) => Reply::Quiet,
-        Ok(false) => Reply::Open,
-        Err(HoldFault::WrongSeat) => Reply::Fault(Fault::WrongSeat),
-        Err(HoldFault::NoBook) => Reply::Fault(Fault::NoProgram),
-    }
-}
-
-/// Sleeps until there may be something new to see since there were so many holds. Where no worker is awake they are told
-/// once to look again, since a goal may be left that a worker had no memory for. False where that is done, and no worker is
-/// awake.
-fn watch<R: Wait, L1: PostLedger, L2: Ledger, A: Allocator + Copy>(
-    rt: &R,
-    shared: &Shared<L1, L2, A>,
-    seen: u64,
-    told: &mut bool,
-) -> bool {
-    if shared.watch(rt, seen) {
-        return true;
-    }
-    if *told {
-        return false;
-    }
-    *told = true;
-    shared.announce(rt);
-    shared.watch(rt, seen)
-}
-
-/// Looks at most `most + 1` times whether a ticket is open, until none is, or no worker is awake, or the patience ends.
-/// Between two looks it sleeps while a worker is awake, through fewer than 128 holds of the lock.
-fn wait<R: Wait, L1: PostLedger, L2: Ledger, A: Allocator + Copy, P: Patience>(
+/// Waits until no ticket is open, and counts its looks in `looks`.
+fn wait_counted<R: Wait, L1: PostLedger, L2: Ledger, A: Allocator + Copy, P: Patience>(
     rt: &R,
     shared: &Shared<L1, L2, A>,
     seat: &Seat<L1, L2>,
     most: u32,
     patience: &mut P,
+    looks: &mut u64,
 ) -> Reply<A>
-    ensures { WaitReplies seat.now (reply_of result) }
+    ensures replies { WaitReplies seat.now (reply_of result) }
+    ensures looks { looks.new ≤ most + 1 }
 {
-    let mut told = false;
-    for _ in 0..most {
-        let seen = shared.holds(rt);
-        let reply = look(rt, shared, seat);
-        if !matches!(reply, Reply::Open) || !patience.goes_on() {
-            return reply;
-        }
-        if !watch(rt, shared, seen, &mut told) {
-            break;
-        }
-    }
-    look(rt, shared, seat)
+    let mut watch = Watch::new(rt, shared, seat);
+    let reply = wait(&mut watch, most, patience);
+    *looks = watch.looks();
+    reply
 }
 
 /// The lines of the store.
@@ -227,22 +186,6 @@ fn log<R: Wait, L1: PostLedger, L2: Ledger, A: Allocator + Copy>(
     }
 }
 
-/// What a session that waits asks between two looks.
-pub trait Patience {
-    /// Whether it goes on.
-    fn goes_on(&mut self) -> bool;
-}
-
-/// A patience without end.
-#[derive(Clone, Copy, Debug)]
-struct Endless;
-
-impl Patience for Endless {
-    fn goes_on(&mut self) -> bool {
-        true
-    }
-}
-
 /// Carries out a command by a seat and an inlet.
 fn carry_out<R: Wait, L1: PostLedger, L2: Ledger, A: Allocator + Copy, P: Patience>(
     rt: &R,
@@ -251,21 +194,24 @@ fn carry_out<R: Wait, L1: PostLedger, L2: Ledger, A: Allocator + Copy, P: Patien
     seat: &mut Seat<L1, L2>,
     inlet: &mut Inlet<u64>,
     patience: &mut P,
+    looks: &mut u64,
     command: Command<'_>,
 ) -> Reply<A>
     ensures replies { SharedReplies seat.old (command_of command.entry) (reply_of result) seat.new }
     ensures inlet { inlet_id inlet.new ≡ inlet_id inlet.old }
+    ensures looks { LooksSoOften (command_of command.entry) looks.old looks.new }
 {
     match command {
         Command::Load(text) => load(rt, alloc, shared, seat, text),
         Command::Post(text) => post(rt, shared, seat, inlet, text),
-        Command::Wait(most) => wait(rt, shared, seat, most, patience),
+        Command::Wait(most) => wait_counted(rt, shared, seat, most, patience, looks),
         Command::Store => store(rt, alloc, shared, seat),
         Command::Log(from) => log(rt, alloc, shared, seat, from),
     }
 }
 
-/// A session's desk on a shared book. Contracts see its seat, and which queue its inlet feeds.
+/// A session's desk on a shared book. Contracts see its seat, which queue its inlet feeds, and how often its last `wait` looked
+/// at the book.
 #[derive(Drop)]
 pub struct SharedDesk<'a, R: Wait, L1: PostLedger, L2: Ledger, A: Allocator> {
     rt: &'a R,
@@ -273,6 +219,7 @@ pub struct SharedDesk<'a, R: Wait, L1: PostLedger, L2: Ledger, A: Allocator> {
     shared: &'a Shared<L1, L2, A>,
     seat: Seat<L1, L2>,
     inlet: Inlet<u64>,
+    looks: u64,
 }
 
 impl<'a, R: Wait, L1: PostLedger, L2: Ledger, A: Allocator> Model for SharedDesk<'a, R, L1, L2, A> {
@@ -282,9 +229,9 @@ impl<'a, R: Wait, L1: PostLedger, L2: Ledger, A: Allocator> Model for SharedDesk
     ghost use Rattle.chr_pool.specs.Inlets.{inlet_id};
     ghost use Rattle.chr_seats.specs.Accounts.{SeatState};
 
-    ghost Value = { SeatState × (SegId Global × ℕ) };
+    ghost Value = { SeatState × (SegId Global × ℕ) × ℕ };
 
-    ghost view = { λ d. (d.seat, inlet_id d.inlet) };
+    ghost view = { λ d. (d.seat, inlet_id d.inlet, d.looks) };
 }
 
 impl<'a, R: Wait, L1: PostLedger, L2: Ledger, A: Allocator + Copy> SharedDesk<'a, R, L1, L2, A> {
@@ -296,7 +243,7 @@ impl<'a, R: Wait, L1: PostLedger, L2: Ledger, A: Allocator + Copy> SharedDesk<'a
         seat: Seat<L1, L2>,
         inlet: Inlet<u64>,
     ) -> SharedDesk<'a, R, L1, L2, A>
-        ensures { result ≡ (seat, inlet_id inlet) }
+        ensures { result ≡ (seat, inlet_id inlet, 0) }
     {
         SharedDesk {
             rt,
@@ -304,16 +251,33 @@ impl<'a, R: Wait, L1: PostLedger, L2: Ledger, A: Allocator + Copy> SharedDesk<'a
             shared,
             seat,
             inlet,
+            looks: 0,
         }
     }
 
     /// Carries out `wait`, and asks after each look that finds a ticket open whether to go on; if not, the reply is that of
-    /// the look. Between two looks it sleeps while a worker is awake, through fewer than 128 holds of the lock, in
-    /// each of which up to 256 trials are reported and as many given out.
-    pub fn wait<P: Patience>(&self, most: u32, patience: &mut P) -> Reply<A>
-        ensures { WaitReplies self.now.0 (reply_of result) }
+    /// the look. It looks at most `most + 1` times, each time in a hold of the lock. Between two looks it sleeps while a worker is
+    /// awake, as [`Shared::watch`](chr_shared::Shared::watch) does.
+    pub fn wait<P: Patience>(&mut self, most: u32, patience: &mut P) -> Reply<A>
+        ensures replies { WaitReplies self.old.0 (reply_of result) }
+        ensures looks { self.new.2 ≤ most + 1 }
+        ensures same { (self.new.0 ≡ self.old.0) × (self.new.1 ≡ self.old.1) }
     {
-        wait(self.rt, self.shared, &self.seat, most, patience)
+        wait_counted(
+            self.rt,
+            self.shared,
+            &self.seat,
+            most,
+            patience,
+            &mut self.looks,
+        )
+    }
+
+    /// Returns how often the last `wait` looked at the book, 0 before the first.
+    pub fn looks(&self) -> u64
+        ensures { result ≡ self.now.2 }
+    {
+        self.looks
     }
 
     /// Gives back the seat and the inlet.
@@ -327,7 +291,7 @@ impl<'a, R: Wait, L1: PostLedger, L2: Ledger, A: Allocator + Copy> SharedDesk<'a
 
 impl<'a, R: Wait, L1: PostLedger, L2: Ledger, A: Allocator + Copy> Desk<A>
     for SharedDesk<'a, R, L1, L2, A> {
-    ghost step = { λ old command reply new. SharedReplies old.0 command reply new.0 × (new.1 ≡ old.1) };
+    ghost step = { λ old command reply new. SharedReplies old.0 command reply new.0 × (new.1 ≡ old.1) × LooksSoOften command old.2 new.2 };
 
     fn ask(&mut self, command: Command<'_>) -> Reply<A> {
         carry_out(
@@ -337,6 +301,7 @@ impl<'a, R: Wait, L1: PostLedger, L2: Ledger, A: Allocator + Copy> Desk<A>
             &mut self.seat,
             &mut self.inlet,
             &mut Endless,
+            &mut self.looks,
             command,
         )
     }
@@ -352,11 +317,13 @@ pub struct LentDesk<'a, R: Wait, L1: PostLedger, L2: Ledger, A: Allocator, P: Pa
     pub seat: &'a mut Seat<L1, L2>,
     pub inlet: &'a mut Inlet<u64>,
     pub patience: P,
+    /// How often the last `wait` looked at the book.
+    pub looks: u64,
 }
 
 impl<'a, R: Wait, L1: PostLedger, L2: Ledger, A: Allocator + Copy, P: Patience + Drop> Desk<A>
     for LentDesk<'a, R, L1, L2, A, P> {
-    ghost step = { λ old command reply new. SharedReplies old.seat.now command reply new.seat.now × (inlet_id new.inlet.now ≡ inlet_id old.inlet.now) };
+    ghost step = { λ old command reply new. SharedReplies old.seat.now command reply new.seat.now × (inlet_id new.inlet.now ≡ inlet_id old.inlet.now) × LooksSoOften command old.looks new.looks };
 
     fn ask(&mut self, command: Command<'_>) -> Reply<A> {
         carry_out(
@@ -366,6 +333,7 @@ impl<'a, R: Wait, L1: PostLedger, L2: Ledger, A: Allocator + Copy, P: Patience +
             self.seat,
             self.inlet,
             &mut self.patience,
+            &mut self.looks,
             command,
         )
     }

@@ -96,7 +96,7 @@ impl<L1: PostLedger, L2: Ledger, A: Allocator + Copy + Refuses, R: Wait> Seated<
     }
 
     /// Whether a `wait` of so many looks finds a ticket open, and has looked at most so often.
-    fn finds_open(&self, looks: u32, most: u64) -> bool {
+    fn finds_open(&mut self, looks: u32, most: u64) -> bool {
         let signs = self.door.signs;
         let mut patience = Looks { signs };
         let open = matches!(self.desk.wait(looks, &mut patience), Reply::Open);
