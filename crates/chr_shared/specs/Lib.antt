@@ -1,3 +1,4 @@
 pub mod Lines
 pub mod Readings
 pub mod Installs
+pub mod Sleepers

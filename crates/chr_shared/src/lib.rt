@@ -30,4 +30,5 @@ pub use lines::Lines;
 pub use log_lines::LogRead;
 pub use resting::Rest;
 pub use shared::Shared;
+pub use sleepers::HOLDS_A_LOOK;
 pub use store_lines::StoreRead;

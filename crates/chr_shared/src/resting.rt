@@ -108,9 +108,10 @@ impl<L1: PostLedger, L2: Ledger, A: Allocator + Copy> Shared<L1, L2, A> {
         self.locked.lock(rt).sleepers.holds
     }
 
-    /// A session that saw the book after `seen` holds sleeps while a worker is awake, until at least 512 holds have been made
-    /// since: while `n` sessions sleep, fewer than `512 * n + 512`. Where no worker is awake it doesn't sleep. Returns whether
-    /// there may be something new: false only once a worker has begun, none is awake and there was no hold since.
+    /// Has a session that saw the book after `seen` holds sleep while a worker is awake, until at least
+    /// [`HOLDS_A_LOOK`](crate::HOLDS_A_LOOK) holds have been made since: while `n` sessions sleep, fewer than `n + 1` times as
+    /// many. Where no worker is awake it doesn't sleep. Returns whether there may be something new: false only once a worker has
+    /// begun, none is awake and there was no hold since.
     pub fn watch<R: Wait>(&self, rt: &R, seen: u64) -> bool {
         let mut locked = self.locked.lock(rt);
         let sleepers = &mut locked.sleepers;
