@@ -1,5 +1,6 @@
 //! What the words of a command line ask for.
 use crate::commands::command;
+use crate::masking::{are_masked, masked_words};
 use chr_explain::{Form, Question};
 use chr_run_text::Show;
 use clap::error::ErrorKind;
@@ -274,10 +275,23 @@ fn read_by<'a, S: AsStr>(
     }
 }
 
+/// Returns the error of words in which a control character stands, with the words as a message shows them.
+fn masked_error<S: AsStr>(alloc: Global, words: &[S], error: Error) -> Result<Error, AllocError> {
+    let masked = masked_words(alloc, words)?;
+    let mut command = command(alloc)?;
+    match read_by(alloc, &mut command, masked.as_slice()) {
+        Ok(_) => Ok(error),
+        Err(error) => Ok(error),
+    }
+}
+
 /// Reads the words of a command line, the program's own name first.
 ///
 /// Help and the version are an `Err` too where they are asked for, with exit code 0; they are printed to standard output.
 pub fn read<'a, S: AsStr>(alloc: Global, words: &'a [S]) -> Result<Asked<'a>, Error> {
     let mut command = command(alloc)?;
-    read_by(alloc, &mut command, words)
+    match read_by(alloc, &mut command, words) {
+        Err(error) if are_masked(words) => Err(masked_error(alloc, words, error)?),
+        read => read,
+    }
 }
