@@ -1,9 +1,12 @@
 //! `chr check`.
-use crate::files::texts;
+ghost use Rattle.std.specs.Prelude.{◌≡◌, ◌≢◌, ◌⊎◌, IsOk, IsErr};
+
+use crate::ending::Status;
 use crate::message::{Detail, Fault, Source, Text, part_message, refusal_message};
+use crate::parts::{part_with, texts};
 use crate::progress::Progress;
 use crate::refused;
-use crate::report::{Status, print, report_fault, report_no_memory};
+use crate::report::{print, report_fault, report_no_memory};
 use crate::task::{Task, read_and_carry_out};
 use chr_check::fault::{CheckFault, Place};
 use chr_check_text::{CheckPartsFault, Checked, watched_check_parts};
@@ -19,17 +22,6 @@ struct Recorded<'a> {
     log: &'a [Source<'a>],
     parts: &'a [&'a [u8]],
     store: Source<'a>,
-}
-
-/// Returns the part of a log that has the entry of this line.
-fn part_with<'a>(log: &[Source<'a>], line: u64) -> Option<Source<'a>> {
-    let mut found = None;
-    for source in log {
-        if found.is_none() || source.part.unwrap_or(0) < line {
-            found = Some(*source);
-        }
-    }
-    found
 }
 
 /// Returns what the entries before a refused one tell of it, read from the texts of the rules and of the parts of the log.
@@ -96,7 +88,9 @@ fn print_refusal(
     program: &[u8],
     recorded: Recorded<'_>,
     fault: CheckFault,
-) -> Status {
+) -> Status
+    ensures { (result ≡ Status.Fault) ⊎ (result ≡ Status.Usage) ⊎ (result ≡ Status.NoMemory) }
+{
     let status = print(rt, detail, line);
     if status != Status::Done {
         return status;
@@ -113,7 +107,9 @@ pub(crate) fn report_refusal(
     program: &[u8],
     log: Source<'_>,
     fault: CheckFault,
-) -> Status {
+) -> Status
+    ensures { (result ≡ Status.Fault) ⊎ (result ≡ Status.Usage) ⊎ (result ≡ Status.NoMemory) }
+{
     let Ok(line) = format!(in rt.alloc(); "refused {fault}\n") else {
         return report_no_memory(rt, detail);
     };
@@ -132,7 +128,11 @@ fn print_checked<A: Allocator>(
     program: &[u8],
     recorded: Recorded<'_>,
     checked: &Checked<A>,
-) -> Status {
+) -> Status
+    ensures run { result ≡ Status.Done → IsOk checked.now.answer }
+    ensures refused { result ≡ Status.Fault → IsErr checked.now.answer }
+    ensures closed { result ≢ Status.Open }
+{
     match checked.answer {
         Ok(_) => print(rt, detail, &checked.line),
         Err(fault) => print_refusal(rt, detail, &checked.line, program, recorded, fault),
@@ -146,7 +146,10 @@ fn report_parts_fault<R: Eprint + AllocGlobal>(
     program: Source<'_>,
     recorded: Recorded<'_>,
     fault: CheckPartsFault,
-) -> Status {
+) -> Status
+    ensures says { (result ≡ Status.Fault) ⊎ (result ≡ Status.NoMemory) }
+    ensures fault { result ≡ Status.Fault → fault ≢ CheckPartsFault.Memory }
+{
     match fault {
         CheckPartsFault::Program(fault) => report_fault(rt, detail, program, Fault::Read(fault)),
         CheckPartsFault::Log(fault) => match recorded.log.get(fault.part) {
@@ -168,7 +171,9 @@ pub(crate) fn check_sources<'s, R: Clock + Print + Eprint + AllocGlobal>(
     program: Source<'_>,
     log: &'s [Source<'s>],
     store: Source<'s>,
-) -> Status {
+) -> Status
+    ensures { result ≢ Status.Open }
+{
     let Ok(parts) = texts(rt.alloc(), log) else {
         return report_no_memory(rt, detail);
     };

@@ -1,8 +1,9 @@
 //! Reading files and standard input.
-use crate::message::{Source, Text};
+ghost use Rattle.std.specs.Prelude.{◌≡◌, ◌+◌, ◌++◌, ◌∷◌, [], ℕ, map, length, take, IfOk, IfSome, OnOk};
+ghost use Rattle.chr_commands.specs.Files.{most_bytes, of_kind};
+
+use crate::message::Text;
 use chr_command_line::STANDARD_INPUT;
-use chr_log_text::MOST_BYTES as MOST_LOG_BYTES;
-use chr_text::MOST_BYTES as MOST_TEXT_BYTES;
 use std::alloc::{AllocError, Allocator, Global};
 use std::fs::File;
 use std::io::{self, Read};
@@ -11,15 +12,27 @@ use std::rt::Files;
 /// What a file is read as, and its path.
 pub type TextPath<'p> = (Text, &'p str);
 
-/// The limit on the bytes of a text.
-fn most_bytes(text: Text) -> u64 {
+/// The most bytes of a text of rules or of posts, as `chr_text` has it.
+const MOST_TEXT_BYTES: u32 = 65_536;
+
+/// The most bytes of a text of a log or of a store, as `chr_log_text` has it.
+const MOST_LOG_BYTES: u32 = 67_108_864;
+
+const _: () = prove!(MOST_TEXT_BYTES as usize == chr_text::MOST_BYTES);
+
+const _: () = prove!(MOST_LOG_BYTES as usize == chr_log_text::MOST_BYTES);
+
+/// Returns the most bytes of a text.
+fn most_bytes(text: Text) -> u32
+    ensures { result ≡ most_bytes text }
+{
     match text {
-        Text::Program | Text::Posts => MOST_TEXT_BYTES as u64,
-        Text::Log | Text::Store => MOST_LOG_BYTES as u64,
+        Text::Program | Text::Posts => MOST_TEXT_BYTES,
+        Text::Log | Text::Store => MOST_LOG_BYTES,
     }
 }
 
-/// What messages call the file of a path.
+/// Returns what messages call the file of a path.
 pub fn called(path: &str) -> &str {
     if path == STANDARD_INPUT {
         "standard input"
@@ -28,30 +41,43 @@ pub fn called(path: &str) -> &str {
     }
 }
 
-/// Reads the bytes of a file, or of standard input for the path that stands for it, but no more than the limit and one,
-/// which is enough to see that they are too many.
-fn fetch<R: Files + Input, A: Allocator>(
+/// Adds the bytes that a reader has left, but no more than those that a text may have and one, which shows that they are
+/// too many.
+pub fn fetch<S: Read + Drop, A: Allocator>(
+    reader: S,
+    text: Text,
+    bytes: &mut Vec<u8, A>,
+) -> io::Result<()>
+    ensures { OnOk result (IfSome (S.remaining reader) (λ left. bytes.new.items ≡ bytes.old.items ++ take (most_bytes text + 1) left)) }
+{
+    let mut taken = reader.take(u64::from(most_bytes(text)) + 1);
+    taken.read_to_end(bytes)?;
+    Ok(())
+}
+
+/// Adds the bytes of a file, or of standard input for the path that stands for it, as [`fetch`] takes them.
+fn fetch_file<R: Files + Input, A: Allocator>(
     rt: &R,
     (text, path): TextPath<'_>,
     bytes: &mut Vec<u8, A>,
 ) -> io::Result<()> {
-    let taken = most_bytes(text).saturating_add(1);
     if path == STANDARD_INPUT {
-        rt.reader().take(taken).read_to_end(bytes)?;
+        fetch(rt.reader(), text, bytes)
     } else {
-        File::open(rt, path)?.take(taken).read_to_end(bytes)?;
+        fetch(File::open(rt, path)?, text, bytes)
     }
-    Ok(())
 }
 
-/// Adds the bytes of a file, as [`fetch`] reads them.
+/// Adds the bytes of a file to those of others.
 fn push_file<R: Files + Input + AllocGlobal>(
     rt: &R,
     path: TextPath<'_>,
     files: &mut Vec<Vec<u8>>,
-) -> io::Result<()> {
+) -> io::Result<()>
+    ensures { OnOk result (length files.new.items ≡ length files.old.items + 1) }
+{
     let mut bytes = Vec::new(rt.alloc());
-    fetch(rt, path, &mut bytes)?;
+    fetch_file(rt, path, &mut bytes)?;
     files.push(bytes)?;
     Ok(())
 }
@@ -67,7 +93,9 @@ pub struct Unread<'p> {
 pub fn fetch_all<'p, R: Files + Input + AllocGlobal>(
     rt: &R,
     paths: &[TextPath<'p>],
-) -> Result<Vec<Vec<u8>>, Unread<'p>> {
+) -> Result<Vec<Vec<u8>>, Unread<'p>>
+    ensures { IfOk result (λ files. length files.items ≡ length paths.now) }
+{
     let mut files = Vec::new(rt.alloc());
     for path in paths {
         if let Err(error) = push_file(rt, *path, &mut files) {
@@ -80,65 +108,19 @@ pub fn fetch_all<'p, R: Files + Input + AllocGlobal>(
     Ok(files)
 }
 
-/// Some paths, and after them those of further files of one kind of text.
+/// Returns some paths, and after them those of further files of one kind of text, all in order.
 pub fn all_paths<'p>(
     alloc: Global,
     first: &[TextPath<'p>],
     text: Text,
     more: &[&'p str],
-) -> Result<Vec<TextPath<'p>>, AllocError> {
+) -> Result<Vec<TextPath<'p>>, AllocError>
+    ensures { IfOk result (λ paths. paths.items ≡ first.now ++ of_kind text more.now) }
+{
     let mut paths = Vec::new(alloc);
     paths.extend_from_slice(first)?;
     for path in more {
         paths.push((text, *path))?;
     }
     Ok(paths)
-}
-
-/// How many lines end in these bytes.
-fn line_ends(bytes: &[u8]) -> u64 {
-    bytes.iter().filter(|b| **b == b'\n').count() as u64
-}
-
-/// Whether there are several files of one kind of text.
-fn are_several(paths: &[TextPath<'_>], text: Text) -> bool {
-    1 < paths.iter().filter(|path| path.0 == text).count()
-}
-
-/// Returns the sources of the texts with the paths of their files. Where there are several of a kind, each is a part, for a
-/// log by the number of lines before it.
-pub fn sources<'a>(
-    alloc: Global,
-    paths: &[TextPath<'a>],
-    files: &'a [Vec<u8>],
-) -> Result<Vec<Source<'a>>, AllocError> {
-    let mut sources = Vec::new(alloc);
-    let mut before = 0u64;
-    for (path, bytes) in paths.iter().zip(files) {
-        let (text, path) = *path;
-        let part = if are_several(paths, text) {
-            Some(before)
-        } else {
-            None
-        };
-        sources.push(Source {
-            text,
-            path: called(path),
-            bytes,
-            part,
-        })?;
-        if text == Text::Log {
-            before = before.saturating_add(line_ends(bytes));
-        }
-    }
-    Ok(sources)
-}
-
-/// Returns the bytes of sources.
-pub fn texts<'a>(alloc: Global, sources: &[Source<'a>]) -> Result<Vec<&'a [u8]>, AllocError> {
-    let mut texts = Vec::new(alloc);
-    for source in sources {
-        texts.push(source.bytes)?;
-    }
-    Ok(texts)
 }

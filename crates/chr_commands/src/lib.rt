@@ -7,20 +7,34 @@
 //! [`Status`] that the program ends with. What they run on is a bound, as `Files`, `Print` or `Clock`, so that tests can give
 //! one that fails.
 //!
-//! A command is safe and returns, whatever the files and the streams hold; a text is read up to its limit and one byte,
-//! and no further. That its bytes are what a run, a check, an explanation, a picture or a session has for those it read is
-//! proved below, in `chr_run_text`, `chr_check_text`, `chr_explain`, `chr_picture` and `chr_session`. Nothing but a
-//! fault goes to standard error, unless that is a terminal ([`Detail`]): then each fault is followed by what it means and
-//! where it is ([`message`]), and long work tells each second how far it is ([`progress`]).
+//! A command is safe and returns, whatever the files and the streams hold. Besides it promises:
 //!
-//! The rest of the program ends by the same words: [`Status`], [`report_failure`], [`report_no_memory`] and
-//! [`print_usage`].
+//! - What its status says, by the bytes that it read: 0 where the run ended with no open goal, the explanation or the
+//!   picture that was asked for was made, the check that was made said yes, or the session ended between commands; 3 where
+//!   the run ended with open goals; 1 where a text has a fault or the log is refused. A status of 2 or 5 may come at any
+//!   time: a file, a stream or memory failed.
+//! - What is read of a file: its bytes up to its text's limit and one, which shows a text that is too long ([`files`]).
+//! - That paths, posts and parts of a log are taken in order, and which part has a line ([`parts`]).
+//! - That what is printed and what is written to each file of a run is what it is to be, all of which is made before any of
+//!   it is written ([`run`]); and that outputs which lead to one file are told ([`outputs`]).
+//!
+//! That files are written all or none ([`writing`]) is tested, since no clause says what a file holds. That the bytes that
+//! were read are what a run, a check, an explanation, a picture or a session has is proved below, in `chr_run_text`,
+//! `chr_check_text`, `chr_explain`, `chr_picture` and `chr_session`. Nothing but a fault goes to standard error, unless that
+//! is a terminal ([`Detail`]): then each fault is followed by what it means and where it is ([`message`]), and long work
+//! tells each second how far it is ([`progress`]). Paths and words stand there as [`Masked`] shows them.
+//!
+//! The rest of the program ends by the same words: [`Status`], [`report_failure`], [`report_no_memory`], [`report_words`]
+//! and [`print_usage`].
 #![tactic(auto)]
 
 pub mod check;
+pub mod ending;
 pub mod explain;
-mod files;
+pub mod files;
 pub mod message;
+pub mod outputs;
+pub mod parts;
 pub mod picture;
 pub mod progress;
 mod refused;
@@ -28,6 +42,10 @@ mod report;
 pub mod run;
 pub mod session;
 mod task;
+mod words;
+pub mod writing;
 
+pub use chr_command_line::Masked;
+pub use ending::Status;
 pub use message::Detail;
-pub use report::{Status, print_usage, report_failure, report_no_memory};
+pub use report::{print_usage, report_failure, report_no_memory, report_words};

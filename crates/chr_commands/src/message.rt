@@ -1,5 +1,6 @@
 //! What standard error says of a fault in a text, and of a log that is refused.
 use chr_check::fault::{CheckFault, Kind as CheckKind};
+use chr_command_line::Masked;
 use chr_lex::fault::{Kind, ReadFault};
 use chr_log_text::fault::TextFault;
 use std::alloc::{AllocError, Allocator};
@@ -225,7 +226,7 @@ fn push_place<A: Allocator>(
     source: Source<'_>,
     line: u64,
 ) -> Result<(), AllocError> {
-    write!(message, "\n --> {}", source.path)?;
+    write!(message, "\n --> {}", Masked(source.path))?;
     if line == 0 {
         return message.push('\n');
     }
@@ -250,7 +251,7 @@ fn push_line<A: Allocator>(
 ) -> Result<(), AllocError> {
     write!(message, "chr: {} {line}", source.text.word())?;
     match source.part {
-        Some(_) => write!(message, " in {}", source.path),
+        Some(_) => write!(message, " in {}", Masked(source.path)),
         None => Ok(()),
     }
 }

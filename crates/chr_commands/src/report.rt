@@ -1,38 +1,14 @@
-//! How the program ends, and what it says of a failure.
+//! What the program prints, and what it says of a failure.
+ghost use Rattle.std.specs.Prelude.{◌≡◌, ◌⊎◌};
+
+use crate::ending::Status;
 use crate::message::{Detail, Fault, Source, message, no_memory_message};
+use crate::words::first_not_text;
+use chr_command_line::Masked;
 use clap::error::ErrorKind;
 use std::alloc::AllocError;
 use std::io::{self, Write};
-use std::process::ExitCode;
-
-/// How the program ends.
-#[derive(Clone, Copy, Debug, PartialEq, Eq)]
-pub enum Status {
-    /// No goal is open at the end of the run, the log is a run, the session has ended between commands, all connections
-    /// have been served, or help was asked for.
-    Done,
-    /// A text has a fault, the log is no run that ends in the store, or the input of the session is cut.
-    Fault,
-    /// The command line is wrong, or a file, a socket, standard input or standard output failed.
-    Usage,
-    /// Goals are open at the end of the run.
-    Open,
-    /// The system refused memory (E01).
-    NoMemory,
-}
-
-impl Status {
-    /// Returns the exit status.
-    pub fn code(self) -> ExitCode {
-        ExitCode::from(match self {
-            Status::Done => 0,
-            Status::Fault => 1,
-            Status::Usage => 2,
-            Status::Open => 3,
-            Status::NoMemory => 5,
-        })
-    }
-}
+use std::rt::Env;
 
 /// Whether a write failed as its reader has gone away, which is no failure of the program.
 fn is_closed(error: &io::Error) -> bool {
@@ -48,22 +24,47 @@ fn put(rt: &impl Print, bytes: &[u8]) -> io::Result<()> {
 }
 
 /// Writes E01 to standard error.
-pub fn report_no_memory(rt: &impl Eprint, detail: Detail) -> Status {
+pub fn report_no_memory(rt: &impl Eprint, detail: Detail) -> Status
+    ensures { result ≡ Status.NoMemory }
+{
     let _ = eprint!(rt; "{}", no_memory_message(detail));
     Status::NoMemory
 }
 
 /// Writes to standard error what failed, as the path of a file, and the system's error.
-pub fn report_failure(rt: &impl Eprint, detail: Detail, what: &str, error: &io::Error) -> Status {
+pub fn report_failure(rt: &impl Eprint, detail: Detail, what: &str, error: &io::Error) -> Status
+    ensures { (result ≡ Status.Usage) ⊎ (result ≡ Status.NoMemory) }
+{
     if error.kind() == io::ErrorKind::OutOfMemory {
         return report_no_memory(rt, detail);
     }
-    let _ = eprintln!(rt; "chr: {what}: {error}");
+    let _ = eprintln!(rt; "chr: {}: {error}", Masked(what));
     Status::Usage
 }
 
+/// Writes to standard error why the words of the command line can't be read.
+pub fn report_words(
+    rt: &(impl Env + Eprint + AllocGlobal),
+    detail: Detail,
+    error: &io::Error,
+) -> Status
+    ensures { (result ≡ Status.Usage) ⊎ (result ≡ Status.NoMemory) }
+{
+    if error.kind() == io::ErrorKind::InvalidData {
+        if let Some(place) = first_not_text(rt) {
+            let _ = eprintln!(rt;
+                "chr: the command line: word {place} isn't UTF-8, as each option and each path must be"
+            );
+            return Status::Usage;
+        }
+    }
+    report_failure(rt, detail, "the command line", error)
+}
+
 /// Writes a result to standard output.
-pub fn print(rt: &(impl Print + Eprint), detail: Detail, bytes: &[u8]) -> Status {
+pub fn print(rt: &(impl Print + Eprint), detail: Detail, bytes: &[u8]) -> Status
+    ensures { (result ≡ Status.Done) ⊎ (result ≡ Status.Usage) ⊎ (result ≡ Status.NoMemory) }
+{
     match put(rt, bytes) {
         Ok(()) => Status::Done,
         Err(error) => report_failure(rt, detail, "standard output", &error),
@@ -76,7 +77,9 @@ pub fn report_fault<R: Eprint + AllocGlobal>(
     detail: Detail,
     source: Source<'_>,
     fault: Fault,
-) -> Status {
+) -> Status
+    ensures { (result ≡ Status.Fault) ⊎ (result ≡ Status.NoMemory) }
+{
     match message(rt.alloc(), detail, source, fault) {
         Ok(message) => {
             let _ = eprint!(rt; "{message}");
@@ -86,14 +89,16 @@ pub fn report_fault<R: Eprint + AllocGlobal>(
     }
 }
 
-/// Prints the help that was asked for, or what is wrong with the command line.
+/// Prints the help that was asked for to standard output, or what is wrong with the command line to standard error.
 pub fn print_usage(rt: &(impl Print + Eprint), detail: Detail, error: &clap::Error) -> Status {
     if error.kind() == ErrorKind::OutOfMemory {
         return report_no_memory(rt, detail);
     }
     match error.print(rt) {
-        Err(failure) if !is_closed(&failure) => Status::Usage,
-        _ if error.exit_code() == 0 => Status::Done,
-        _ => Status::Usage,
+        _ if error.use_stderr() => Status::Usage,
+        Err(failure) if !is_closed(&failure) => {
+            report_failure(rt, detail, "standard output", &failure)
+        }
+        _ => Status::Done,
     }
 }

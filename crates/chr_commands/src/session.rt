@@ -1,8 +1,10 @@
 //! `chr session`.
-ghost use Rattle.std.specs.Prelude.{◌≡◌, None};
+ghost use Rattle.std.specs.Prelude.{◌≡◌, ◌≢◌, ◌⊎◌, ℕ, List, None, Ok, IfOk};
+ghost use Rattle.chr_commands.specs.Sessions.{IsServedAlone};
 
+use crate::ending::Status;
 use crate::message::Detail;
-use crate::report::{Status, report_failure, report_no_memory};
+use crate::report::{report_failure, report_no_memory};
 use chr_session::{Ended, ServeFault, Sink, Source, Stream, serve};
 use chr_solo::SoloDesk;
 use std::alloc::Allocator;
@@ -63,13 +65,16 @@ impl<W: Write> Write for Remembering<W> {
     }
 }
 
-/// Serves a session with a desk of its own.
+/// Serves a session with a desk of its own, which gives no label above `labels`.
+#[tactic(auto, using(crate::proofs::Alone::served_alone))]
 fn serve_alone<S: Source, W: Sink, A: Allocator + Copy>(
     alloc: A,
     labels: u32,
     source: &mut S,
     sink: &mut W,
-) -> Result<Ended, ServeFault> {
+) -> Result<Ended, ServeFault>
+    ensures { IfOk result (λ how. (input : List ℕ) → S.left source.old input → IsServedAlone labels (W.taken sink.old) (W.taken sink.new) how input) }
+{
     let mut desk = SoloDesk::new(alloc, u64::from(labels));
     serve(alloc, source, sink, &mut desk)
 }
@@ -81,7 +86,11 @@ fn report_end<R: Read, W: Write>(
     source: &Stream<Remembering<R>>,
     sink: &Stream<Remembering<W>>,
     ended: Result<Ended, ServeFault>,
-) -> Status {
+) -> Status
+    ensures done { result ≡ Status.Done → (ended ≡ Ok Ended.Quit) ⊎ (ended ≡ Ok Ended.End) }
+    ensures cut { result ≡ Status.Fault → ended ≡ Ok Ended.Cut }
+    ensures closed { result ≢ Status.Open }
+{
     match ended {
         Ok(Ended::Quit | Ended::End) => Status::Done,
         Ok(Ended::Cut) => Status::Fault,

@@ -1,10 +1,14 @@
 //! From the paths of texts to what a command does with them.
+ghost use Rattle.std.specs.Prelude.{◌≡◌, length};
+
 use crate::check::check_sources;
+use crate::ending::Status;
 use crate::explain::explain_sources;
-use crate::files::{TextPath, all_paths, called, fetch_all, sources};
+use crate::files::{TextPath, all_paths, called, fetch_all};
 use crate::message::{Detail, Source, Text};
+use crate::parts::sources;
 use crate::picture::draw;
-use crate::report::{Status, report_failure, report_no_memory};
+use crate::report::{report_failure, report_no_memory};
 use crate::run::run_sources;
 use chr_command_line::RunOptions;
 use chr_explain::Question;
@@ -50,7 +54,9 @@ fn carry_out_on_files<R: Files + Clock + Print + Eprint + AllocGlobal>(
     task: Task<'_>,
     paths: &[TextPath<'_>],
     files: &[Vec<u8>],
-) -> Status {
+) -> Status
+    requires { length paths.now ≡ length files.now }
+{
     match sources(rt.alloc(), paths, files) {
         Ok(texts) => carry_out(rt, detail, task, &texts),
         Err(AllocError) => report_no_memory(rt, detail),

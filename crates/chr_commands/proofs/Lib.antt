@@ -1,0 +1,4 @@
+mod Alone
+mod Counting
+mod Quiet
+mod Told
