@@ -9,5 +9,4 @@
 //! No clause can say what is at a path: that files are left and sockets are removed is tested.
 #![tactic(auto)]
 
-mod masked;
 pub mod serve;

@@ -1,7 +1,7 @@
 //! `chr serve`.
 ghost use Rattle.std.specs.Prelude.{◌≡◌, ◌≤◌};
 
-use crate::masked::Masked;
+use chr_command_line::Masked;
 use chr_commands::{Detail, Status, report_failure, report_no_memory};
 use chr_serve::{Ready, ServerFault, serve_on};
 use std::fmt::{Display, Formatter};
