@@ -8,7 +8,8 @@
 //! What a check answers is proved, and so is each byte of its line. The tables fix the lines that are wanted for worked
 //! texts: logs and stores that are runs, changed ones with their first fault, and texts that can't be read. They also
 //! show what no clause says: that runs and checks succeed where memory is left, that a fault is displayed as its line has
-//! it, and that a watch is told of each call and of each entry.
+//! it, and that a watch is told of each call and of each entry. Where a request for memory is refused, a check and a
+//! picture answer that and nothing else.
 #![tactic(auto)]
 
 #[cfg(test)]

@@ -1,4 +1,6 @@
 //! Whole runs, checks and pictures.
 mod checks;
+mod long_logs;
 mod pictures;
+mod refusals;
 mod runs;

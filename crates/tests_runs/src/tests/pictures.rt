@@ -3,20 +3,20 @@ use chr_picture::{PictureFault, Range, draw_text};
 use std::alloc::Global;
 use std::test::*;
 
-const GCD: &[u8] =
+pub const GCD: &[u8] =
     b"gcd(0) <=> true.\ngcd(N) \\ gcd(M) <=> 0 < N, N =< M | L is M mod N, gcd(L).\n";
 
 /// The log of a run of `GCD`.
-const LOG: &[u8] =
+pub const LOG: &[u8] =
     b"chr-log 1\nP 1 gcd(9)\nP 2 gcd(6)\nA 1 1\nD 1\nA 2 2\nF 2 2 2\\1\nD 2\nA 3 3\nF 3 2 3\\2\nD 3\nA 4 4\nF 4 1 \\4\n";
 
-const SWAP: &[u8] = b"p(f(X,Y)) <=> q(f(Y,X)).\n";
+pub const SWAP: &[u8] = b"p(f(X,Y)) <=> q(f(Y,X)).\n";
 
 /// The log of a run of `SWAP`.
-const SWAP_LOG: &[u8] = b"chr-log 1\nP 1 p(f(a,g(1)))\nA 1 1\nF 1 1 \\1\nA 2 2\nD 2\n";
+pub const SWAP_LOG: &[u8] = b"chr-log 1\nP 1 p(f(a,g(1)))\nA 1 1\nF 1 1 \\1\nA 2 2\nD 2\n";
 
 /// How often a text has this part.
-fn count(text: &[u8], part: &[u8]) -> usize {
+pub fn count(text: &[u8], part: &[u8]) -> usize {
     let parts = text.windows(part.len().max(1)).filter(|one| *one == part);
     parts.count()
 }
@@ -61,7 +61,7 @@ static PARTS: [(u32, u32, &[&str]); 5] = [
 ];
 
 /// Whether a picture has this title, once.
-fn has_title(alloc: Global, picture: &[u8], title: &str) -> bool {
+pub fn has_title(alloc: Global, picture: &[u8], title: &str) -> bool {
     match format!(in alloc; "<title>{title}</title>") {
         Ok(title) => count(picture, title.as_bytes()) == 1,
         Err(_) => false,
@@ -69,7 +69,7 @@ fn has_title(alloc: Global, picture: &[u8], title: &str) -> bool {
 }
 
 /// Whether these titles and no others are in a picture.
-fn are_titles(alloc: Global, picture: &[u8], titles: &[&str]) -> bool {
+pub fn are_titles(alloc: Global, picture: &[u8], titles: &[&str]) -> bool {
     for title in titles {
         if !has_title(alloc, picture, title) {
             return false;
