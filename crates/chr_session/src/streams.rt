@@ -1,14 +1,19 @@
 //! Sources and sinks over std's readers and writers. Each passes at most 2^63 - 1 bytes, and fails past that.
-ghost use Rattle.std.specs.Prelude.{◌≡◌, ◌+◌, ◌-◌, ◌<◌, ◌≤◌, ◌++◌, ℕ, List, Some, Ok, length, take, IfOk, OnErr, IsErr, MatchOption, MatchResult};
+ghost use Rattle.std.specs.Prelude.{◌≡◌, ◌↔◌, ◌+◌, ◌-◌, ◌<◌, ◌≤◌, ◌++◌, ℕ, List, None, Some, Ok, length, take, IfErr, IfOk, OnErr, IsErr, MatchOption, MatchResult};
 ghost use Rattle.chr_session.specs.Devices.{HasCause, Gives};
 ghost use Rattle.std.specs.Io.{ReadsAtMost, WritesAtMost};
 ghost use Rattle.std.specs.Io.KnownBytes.{ReadConsumes, WriteAppends};
+ghost use Rattle.std.specs.IoError.{error_kind};
+ghost use Rattle.std.specs.declared.io.ErrorKind.TheVariants.{Interrupted};
 
 use crate::devices::{Failed, Sink, Source};
 use std::io::{self, ErrorKind, Read, Write};
 
 /// So many bytes pass at most.
 const LIMIT: u64 = 9_223_372_036_854_775_807;
+
+/// How often a call that signals interrupt is made at most.
+const MOST_CALLS: u64 = u64::MAX;
 
 /// A reader or a writer of bytes. A call that a signal interrupts is made again.
 #[derive(Drop)]
@@ -38,7 +43,8 @@ impl<T> Stream<T> {
 
 /// What a call came to, or none where a signal interrupted it.
 fn ended(call: io::Result<usize>) -> Option<Result<usize, Failed>>
-    ensures { MatchOption result (IsErr call) (λ ended. MatchResult ended (λ n. call ≡ Ok n) (λ _. IsErr call)) }
+    ensures ended { MatchOption result (IsErr call) (λ ended. MatchResult ended (λ n. call ≡ Ok n) (λ _. IsErr call)) }
+    ensures again { IfErr call (λ error. (result ≡ None) ↔ (error_kind error ≡ Interrupted)) }
 {
     match call {
         Ok(n) => Some(Ok(n)),
@@ -56,7 +62,7 @@ fn read_some<R: Read>(inner: &mut R, into: &mut [u8]) -> Result<usize, Failed>
     ensures bound { ReadsAtMost result into.new }
     ensures bytes { ReadConsumes (R.remaining inner.old) (R.remaining inner.new) result into.new }
 {
-    for _turn in 0..u64::MAX {
+    for _turn in 0..MOST_CALLS {
         if let Some(read) = ended(inner.read(into)) {
             return read;
         }
@@ -96,7 +102,7 @@ fn write_some<W: Write>(inner: &mut W, bytes: &[u8]) -> Result<usize, Failed>
     ensures bound { WritesAtMost result bytes.now }
     ensures bytes { WriteAppends (W.contents inner.old) (W.contents inner.new) result bytes.now }
 {
-    for _turn in 0..u64::MAX {
+    for _turn in 0..MOST_CALLS {
         if let Some(written) = ended(inner.write(bytes)) {
             return written;
         }

@@ -11,11 +11,19 @@
 //! were carried out. That a desk's replies are those of such a run is proved; that a session goes on after a refusal, and
 //! answers E01 only there, no clause says.
 //!
+//! A run is served through readers and writers that signals interrupt, in each call and many times: nothing is lost or
+//! written twice. A client that sends a command only once it has the reply to the one before is served: a session that
+//! kept its replies back would read the next command first.
+//!
 //! A `Talk` is a row of the tables.
 #![tactic(auto)]
 
 #[cfg(test)]
 mod breaks;
+#[cfg(test)]
+mod in_turn;
+#[cfg(test)]
+mod interrupted;
 #[cfg(test)]
 mod limits;
 #[cfg(test)]

@@ -4,7 +4,8 @@ use chr_session::{Ended, MemorySink, ServeFault, Sink, Source, serve};
 use chr_solo::SoloDesk;
 use std::alloc::{AllocError, Allocator, Global};
 
-fn add_command(input: &mut Vec<u8, Global>, command: &[u8]) -> Result<(), AllocError> {
+/// Adds the bytes of a command.
+pub fn add_command(input: &mut Vec<u8, Global>, command: &[u8]) -> Result<(), AllocError> {
     for byte in command {
         input.push(if *byte == b'~' { b'\n' } else { *byte })?;
     }

@@ -467,6 +467,47 @@ bye
     ..OPEN
 };
 
+static NUL: Talk = Talk {
+    name: "NUL in lines and texts",
+    lines: b"
+> load 9~a <=> b.\0
+fault E03 BadByte 1
+> load 12~%\0~a <=> b.~
+loaded 1
+> \0~
+fault E21 UnknownCommand
+> \0store~
+fault E21 UnknownCommand
+> store\0~
+fault E21 UnknownCommand
+> store \0~
+fault E21 UnknownCommand
+> wait\01~
+fault E21 UnknownCommand
+> wait 1\0~
+fault E21 UnknownCommand
+> log 1\0~
+fault E21 UnknownCommand
+> post a\0.~
+fault E03 BadByte 1
+> post a.\0~
+fault E03 BadByte 1
+> post a. % \0~
+posted 1 1
+> quit\0~
+fault E21 UnknownCommand
+> wait 9~
+quiet
+> store~
+store 1
+#2 b
+> quit~
+bye
+",
+    ended: Ended::Quit,
+    ..OPEN
+};
+
 static LOAD_IS_CUT: Talk = Talk {
     name: "a load that is cut",
     lines: b"
@@ -491,7 +532,7 @@ fault E23 Cut
 };
 
 /// All of these sessions.
-pub fn talks() -> [&'static Talk<'static>; 14] {
+pub fn talks() -> [&'static Talk<'static>; 15] {
     [
         &RUN,
         &COMPOUND_RUN,
@@ -505,6 +546,7 @@ pub fn talks() -> [&'static Talk<'static>; 14] {
         &LABELS_ARE_SPENT,
         &BLANKS_AND_LINE_ENDS,
         &WORDS_AND_NUMBERS,
+        &NUL,
         &LOAD_IS_CUT,
         &SECOND_LOAD_IS_CUT,
     ]
