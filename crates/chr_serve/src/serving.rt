@@ -186,7 +186,7 @@ fn take_all<A: Allocator, R: Wait + Clock, C: Listener>(
 struct Notice<'r, T: Ready> {
     ready: &'r T,
     workers: usize,
-    ghost can_tell: { T.can_tell ready.now workers },
+    ghost expected: { workers ≡ T.expected ready.now },
 }
 
 impl<T: Ready> Notice<'_, T> {
@@ -215,8 +215,7 @@ fn with_threads<
     ready: &T,
     sessions: Option<u32>,
 ) -> Result<(), ServerFault>
-    requires sessions { 16 ≤ length members.old }
-    requires ready { T.can_tell ready.now (length members.old - 16) }
+    requires { length members.old ≡ T.expected ready.now + 16 }
     ensures { length members.new ≡ length members.old }
 {
     let notice = Notice {
@@ -268,7 +267,7 @@ fn serve_by<
     blanks: Blanks<A>,
 ) -> Result<(), ServerFault>
     requires workers { (1 ≤ workers) × (workers ≤ 16) }
-    requires ready { T.can_tell ready.now workers }
+    requires ready { workers ≡ T.expected ready.now }
     requires named { AreNamed blanks L1.name L1.parts L2.name L2.parts L1.history }
     requires none { L1.loaded ≡ false }
 {
@@ -326,7 +325,7 @@ pub fn serve_on<
     sessions: Option<u32>,
 ) -> Result<(), ServerFault>
     requires workers { (1 ≤ workers) × (workers ≤ 16) }
-    requires ready { T.can_tell ready.now workers }
+    requires ready { workers ≡ T.expected ready.now }
 {
     serve_by::<Brand, Brand, A, R, C, T>(
         rt,

@@ -91,7 +91,7 @@ struct Announcer<'a, R: Eprint> {
 }
 
 impl<R: Eprint> Ready for Announcer<'_, R> {
-    ghost can_tell = { λ announcer workers. workers ≡ announcer.workers };
+    ghost expected = { λ announcer. announcer.workers };
 
     fn tell(&self, workers: usize) {
         let path = self.path;

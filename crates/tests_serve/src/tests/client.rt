@@ -1,5 +1,5 @@
 //! Servers in a process of their clients, and these clients.
-ghost use Rattle.std.specs.Prelude.{◌≤◌, ⊤};
+ghost use Rattle.std.specs.Prelude.{◌≤◌};
 ghost use denote.Param.Send.{IsSend, IsSync, Frees};
 
 use chr_check::Verdict;
@@ -120,10 +120,13 @@ pub fn listen<R: Files + Net>(rt: &R) -> io::Result<(UnixListener, SocketAddr)> 
 }
 
 /// Whom it makes no difference when a server can serve.
-pub struct Anybody;
+#[derive(Clone, Copy)]
+pub struct Anybody {
+    pub workers: usize,
+}
 
 impl Ready for Anybody {
-    ghost can_tell = { λ _ _. ⊤ };
+    ghost expected = { λ anybody. anybody.workers };
 
     fn tell(&self, _workers: usize) {}
 }
@@ -146,7 +149,7 @@ pub fn found_beside<
             alloc,
             rt.alloc(),
             listener,
-            &Anybody,
+            &Anybody { workers },
             workers,
             Some(sessions),
         )
@@ -195,7 +198,15 @@ pub fn found_until<
     {
         let closable = Closable { listener, closed };
         let alloc = rt.alloc();
-        let ended = serve_on(rt, alloc, alloc, &closable, &Anybody, workers, None);
+        let ended = serve_on(
+            rt,
+            alloc,
+            alloc,
+            &closable,
+            &Anybody { workers },
+            workers,
+            None,
+        );
         matches!(ended, Err(ServerFault::Listener(_)))
     };
     let talk_and_close = || {

@@ -161,7 +161,15 @@ fn ended<R: Threads + Wait + Clock + Sync + AllocGlobal>(
         given: Cell::new(0),
     };
     let alloc = rt.alloc();
-    match serve_on(rt, alloc, alloc, &listener, &Anybody, 1, Some(row.sessions)) {
+    match serve_on(
+        rt,
+        alloc,
+        alloc,
+        &listener,
+        &Anybody { workers: 1 },
+        1,
+        Some(row.sessions),
+    ) {
         Ok(()) => Ok(()),
         Err(ServerFault::NoMemory) => Err(None),
         Err(ServerFault::Listener(error)) => Err(Some(error.kind())),
@@ -272,7 +280,16 @@ fn rules_stay_starved<R: Files + Net + Threads + Wait + Clock + Sync + AllocGlob
             over,
         };
         let alloc = rt.alloc();
-        serve_on(rt, alloc, alloc, &starved, &Anybody, 1, Some(2)).is_ok()
+        serve_on(
+            rt,
+            alloc,
+            alloc,
+            &starved,
+            &Anybody { workers: 1 },
+            1,
+            Some(2),
+        )
+        .is_ok()
     };
     Some(thread::join(rt, serve, || rules_stay(rt, &address, over)))
 }

@@ -1,5 +1,5 @@
 //! What stands before a server says that it can serve.
-ghost use Rattle.std.specs.Prelude.{◌≤◌, ⊤};
+ghost use Rattle.std.specs.Prelude.{◌≤◌};
 
 use crate::tests::client::{Client, LOAD, connect_all, found_beside, listen};
 use chr_serve::{Ready, ServerFault, serve_on};
@@ -19,12 +19,14 @@ type Memory<'m> = &'m Refusing<Global>;
 /// How often it is told that a server can serve, and with how many workers at last.
 #[derive(Drop)]
 struct Told {
+    /// How many workers it is to be told of.
+    expected: usize,
     times: Cell<u32>,
     workers: Cell<usize>,
 }
 
 impl Ready for Told {
-    ghost can_tell = { λ _ _. ⊤ };
+    ghost expected = { λ told. told.expected };
 
     fn tell(&self, workers: usize) {
         self.times.set(self.times.get().wrapping_add(1));
@@ -43,6 +45,7 @@ fn workers_told<R: Threads + Wait + Clock + Sync + AllocGlobal>(
     requires { (1 ≤ workers) × (workers ≤ 16) }
 {
     let told = Told {
+        expected: workers,
         times: Cell::new(0),
         workers: Cell::new(0),
     };
