@@ -1,4 +1,6 @@
 //! What a worker asks of its surroundings.
+ghost use Rattle.std.specs.Prelude.{◌≡◌, ◌↔◌, IsTrue};
+ghost use Rattle.chr_crew.specs.Stops.{turns_taken, stop_after, IsOver};
 
 /// What a worker calls while it doesn't have the lock.
 pub trait Gate {
@@ -28,7 +30,10 @@ pub enum Stop {
 
 impl Stop {
     /// Takes so many turns, or fewer where no more are left; none where the crew is closed. Returns how many.
-    pub(crate) fn spend(&mut self, turns: u64, closed: bool) -> u64 {
+    pub(crate) fn spend(&mut self, turns: u64, closed: bool) -> u64
+        ensures taken { result ≡ turns_taken self.old turns closed }
+        ensures left { self.new ≡ stop_after self.old turns }
+    {
         match self {
             Stop::Turns(left) => {
                 let taken = turns.min(*left);
@@ -40,8 +45,10 @@ impl Stop {
         }
     }
 
-    /// Whether a worker takes no ticket any more, of a crew that is closed or isn't.
-    pub(crate) fn is_over(self, closed: bool) -> bool {
+    /// Returns whether a worker takes no ticket any more, of a crew that is closed or isn't.
+    pub(crate) fn is_over(self, closed: bool) -> bool
+        ensures { IsTrue result ↔ IsOver self closed }
+    {
         match self {
             Stop::Turns(left) => left == 0,
             Stop::Closed => closed,

@@ -1,4 +1,7 @@
 //! What a worker has done.
+ghost use Rattle.std.specs.Prelude.{◌≡◌, ◌≢◌, ◌↔◌, ◌+◌, ◌-◌, ◌*◌, ◌/◌, ◌%◌, ◌^◌, ◌&&◌, min, max, nat_le, nat_lt, if◌then◌else◌};
+ghost use Rattle.chr_crew.specs.declared.record.FirstLook.TheVariants.{Own, Posted, Stray};
+
 use chr_book::MOST_IN_BATCH;
 
 /// How many trials a sheet has at most that follows few judgements or none.
@@ -44,8 +47,10 @@ pub struct Record {
 }
 
 impl Record {
-    /// That of a worker that begins.
-    pub fn new() -> Record {
+    /// Makes that of a worker that begins.
+    pub fn new() -> Record
+        ensures { result ≡ record { tickets = 0; judged = 0; short = 0; untold = 0 } }
+    {
         Record {
             tickets: 0,
             judged: 0,
@@ -54,37 +59,49 @@ impl Record {
         }
     }
 
-    /// It judged so many trials of a sheet.
-    pub fn count_judged(&mut self, trials: usize) {
+    /// Counts so many trials of a sheet as judged.
+    pub fn count_judged(&mut self, trials: usize)
+        ensures { self.new ≡ record self.old { judged = trials; short = if nat_le LEAST_SHEET trials then 0 else self.old.short } }
+    {
         self.judged = trials;
         if LEAST_SHEET <= trials {
             self.short = 0;
         }
     }
 
-    /// It left so many tickets of a firing in its deque.
-    pub fn count_left(&mut self, tickets: usize) {
+    /// Counts so many tickets of a firing as left in its deque.
+    pub fn count_left(&mut self, tickets: usize)
+        ensures { self.new ≡ record self.old { untold = min (self.old.untold + tickets) usize.MAX } }
+    {
         self.untold = self.untold.saturating_add(tickets);
     }
 
-    /// It takes up a ticket, perhaps one that it left.
-    pub fn count_ticket(&mut self) {
+    /// Counts a ticket that it takes up, perhaps one that it left.
+    pub fn count_ticket(&mut self)
+        ensures { self.new ≡ record self.old { tickets = (self.old.tickets + 1) % 2 ^ 64; short = min (self.old.short + 1) u64.MAX; untold = self.old.untold - 1 } }
+    {
         self.tickets = self.tickets.wrapping_add(1);
         self.short = self.short.saturating_add(1);
         self.untold = self.untold.saturating_sub(1);
     }
 
-    /// How many trials the next sheet has at most: twice as many as were judged of the last one, so that goals of many trials take
-    /// few holds. A worker's next goal often takes about as many as the last one.
-    pub fn next_sheet(&self) -> usize {
+    /// Returns how many trials the next sheet has at most: twice as many as were judged of the last one, so that goals of many
+    /// trials take few holds. A worker's next goal often takes about as many as the last one.
+    pub fn next_sheet(&self) -> usize
+        ensures { result ≡ min (max (2 * self.now.judged) LEAST_SHEET) LARGEST_SHEET }
+    {
         self.judged
             .saturating_mul(2)
             .max(LEAST_SHEET)
             .min(LARGEST_SHEET)
     }
 
-    /// Where it looks first for its next ticket.
-    pub fn first_look(&self) -> FirstLook {
+    /// Returns where it looks first for its next ticket: elsewhere once in [`TICKETS_A_LOOK`] tickets, by turns.
+    pub fn first_look(&self) -> FirstLook
+        ensures own { (result ≡ Own) ↔ (self.now.tickets % TICKETS_A_LOOK ≢ TICKETS_A_LOOK - 1) }
+        ensures posted { result ≡ Posted → self.now.tickets / TICKETS_A_LOOK % 2 ≡ 0 }
+        ensures stray { result ≡ Stray → self.now.tickets / TICKETS_A_LOOK % 2 ≡ 1 }
+    {
         if self.tickets % TICKETS_A_LOOK != TICKETS_A_LOOK - 1 {
             FirstLook::Own
         } else if self.tickets / TICKETS_A_LOOK % 2 == 0 {
@@ -94,17 +111,23 @@ impl Record {
         }
     }
 
-    /// Of how many tickets others are to be told, which count as told from now on. None while they are few and its goals take few
-    /// trials.
-    pub fn tell_many(&mut self) -> usize {
+    /// Returns of how many tickets others are to be told, which count as told from now on. None while they are few and its goals
+    /// take few trials.
+    pub fn tell_many(&mut self) -> usize
+        ensures told { result ≡ (if nat_lt self.old.untold MOST_UNTOLD && nat_lt SHORT_GOALS self.old.short then 0 else self.old.untold) }
+        ensures counted { self.new ≡ record self.old { untold = self.old.untold - result } }
+    {
         if self.untold < MOST_UNTOLD && SHORT_GOALS < self.short {
             return 0;
         }
         self.tell_all()
     }
 
-    /// The same however few they are, and whatever its goals take.
-    pub fn tell_all(&mut self) -> usize {
+    /// Returns the same however few they are, and whatever its goals take.
+    pub fn tell_all(&mut self) -> usize
+        ensures told { result ≡ self.old.untold }
+        ensures counted { self.new ≡ record self.old { untold = 0 } }
+    {
         let untold = self.untold;
         self.untold = 0;
         untold
