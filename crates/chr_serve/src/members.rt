@@ -51,7 +51,10 @@ pub fn muster<L1: PostLedger, L2: Ledger, A: Allocator>(
     let mut inlets = inlets.into_iter();
     let mut memory = memory.into_iter();
     for seat in sessions {
-        let (Some(inlet), Some(rooms)) = (inlets.next(), memory.next()) else {
+        let Some(inlet) = inlets.next() else {
+            unreachable!();
+        };
+        let Some(rooms) = memory.next() else {
             unreachable!();
         };
         members.push_reserved(Member {
