@@ -22,7 +22,7 @@ use chr_commands::explain::explain;
 use chr_commands::picture::picture;
 use chr_commands::run::run;
 use chr_commands::session::session;
-use chr_commands::{Detail, Status, print_usage, report_failure};
+use chr_commands::{Detail, Status, print_usage, report_words};
 use chr_picture::Range;
 use chr_socket::serve::serve;
 use std::env;
@@ -89,6 +89,6 @@ fn main(rt: HostRuntime) -> ExitCode {
     };
     match words(&rt) {
         Ok(words) => obey(&rt, detail, words.as_slice()).code(),
-        Err(error) => report_failure(&rt, detail, "the command line", &error).code(),
+        Err(error) => report_words(&rt, detail, &error).code(),
     }
 }

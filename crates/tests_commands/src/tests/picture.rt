@@ -1,7 +1,9 @@
 //! How a picture ends.
+use crate::tests::stage::Stage;
 use chr_commands::picture::picture;
 use chr_commands::{Detail, Status};
 use chr_picture::Range;
+use std::alloc::{AllocError, Global};
 use std::test::*;
 use std::{fs, io};
 
@@ -42,4 +44,50 @@ fn a_file_that_is_not_there(rt: HostRuntime) {
     let range = Range { from: 1, to: 1 };
     let status = picture(&rt, Detail::Line, path, path, range);
     assert!(rt; status == Status::Usage);
+}
+
+/// A log of so many posts, each of which is activated where that is asked for.
+fn log_of(alloc: Global, posts: u32, are_active: bool) -> Result<String, AllocError> {
+    let mut log = String::from_str(alloc, "chr-log 2\n")?;
+    for number in 1..=posts {
+        write!(log, "P {number} a\n")?;
+        if are_active {
+            write!(log, "A {number} {number}\n")?;
+        }
+    }
+    Ok(log)
+}
+
+#[test]
+fn a_picture_that_is_cut(rt: HostRuntime) -> Result<(), Fail> {
+    fs::write(&rt, "picture.chr", b"a, b <=> c.".as_slice())?;
+    let log = log_of(rt.alloc(), 2_001, false)?;
+    fs::write(&rt, "picture.txt", log.as_str())?;
+    for (from, caption) in [
+        (1, "'>entries 1 to 2000 of 2001<"),
+        (2, "'>entries 2 to 2001 of 2001<"),
+    ] {
+        let range = Range { from, to: 9_999 };
+        let stage = Stage::new(&rt, b"");
+        let status = picture(&stage, Detail::Line, "picture.chr", "picture.txt", range);
+        assert!(rt; status == Status::Done && stage.has_said(""));
+        assert!(rt; stage.has_printed_part(caption));
+    }
+    Ok(())
+}
+
+#[test]
+fn a_picture_of_too_many_constraints(rt: HostRuntime) -> Result<(), Fail> {
+    fs::write(&rt, "picture.chr", b"a, b <=> c.".as_slice())?;
+    let log = log_of(rt.alloc(), 10_001, true)?;
+    fs::write(&rt, "picture.txt", log.as_str())?;
+    let range = Range {
+        from: 20_002,
+        to: 20_002,
+    };
+    let stage = Stage::new(&rt, b"");
+    let status = picture(&stage, Detail::Line, "picture.chr", "picture.txt", range);
+    let said = "chr: nothing is drawn: these entries have more than 10,000 constraints\n";
+    assert!(rt; status == Status::Fault && stage.has_printed("") && stage.has_said(said));
+    Ok(())
 }
