@@ -1,3 +1,6 @@
+pub mod Answering
+pub mod Crossing
+pub mod Dealing
+pub mod Free
 pub mod Lists
 pub mod Runs
-pub mod Crossing

@@ -1,6 +1,5 @@
 -- Books that a crew has worked on.
 use Rattle.std.proofs.Common.{◌≡◌, ℕ, [], ◌++◌, ◌∙◌, ap, sym}
-use Rattle.std.specs.Prelude.{Result, Ok, Err, IfOk, IfErr, OnOk}
 use Rattle.std.proofs.lemmas.List.{append-nil}
 use Rattle.chr_calls.specs.Books.{BookState}
 use Rattle.chr_book.specs.declared.shot.Shot.{Shot}
@@ -19,16 +18,3 @@ worked_on b n shot workers is continues = record {
 -- so does the book itself
 pub not_worked_on : (b n : BookState) (workers : ℕ) → n ≡ b → IsWorkedOn workers b n
 not_worked_on b n workers is = record { rules = ap (λ (x : BookState). x.rules) is; more = []; log = ap (λ (x : BookState). x.log) is ∙ sym (append-nil b.log); work = tt }
-
--- what follows from what is said of an answer
-pub ok_then : {X E : Type 0} (P Q : X → Type 0) (r : Result X E) → IfOk r P → ((x : X) → P x → Q x) → IfOk r Q
-ok_then P Q (Ok x) p then = then x p
-ok_then P Q (Err e) p then = tt
-
-pub ok_with : {X E : Type 0} (G : Type 0) (P Q : X → Type 0) (r : Result X E) → OnOk r G → IfOk r P → ((x : X) → G → P x → Q x) → IfOk r Q
-ok_with G P Q (Ok x) g p then = then x g p
-ok_with G P Q (Err e) g p then = tt
-
-pub err_then : {X E : Type 0} (P Q : E → Type 0) (r : Result X E) → IfErr r P → ((e : E) → P e → Q e) → IfErr r Q
-err_then P Q (Ok x) p then = tt
-err_then P Q (Err e) p then = then e p

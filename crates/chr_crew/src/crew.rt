@@ -1,13 +1,15 @@
 //! Runs of a crew on a book.
-ghost use Rattle.std.specs.Prelude.{◌≡◌, ◌↔◌, ◌≤◌, ◌<◌, ◌+◌, ◌++◌, ℕ, List, map, length, get_or, sum_by, vec_len, vec_capacity, true, Some, IfOk, IfErr, IsTrue, OnOk};
+ghost use Rattle.std.specs.Prelude.{◌≡◌, ◌↔◌, ◌≤◌, ◌<◌, ◌+◌, ◌++◌, [], ℕ, List, map, length, get_or, sum_by, vec_len, vec_capacity, true, Some, IfOk, IfErr, IsTrue, OnOk, IsPermutation};
+ghost use Rattle.std.specs.List.{flat_map};
 ghost use Rattle.chr_log.specs.Events.{Entry};
 ghost use Rattle.chr_calls.specs.Tickets.{AreQuiet};
-ghost use Rattle.chr_pool.specs.Hands.{hand_id};
+ghost use Rattle.chr_pool.specs.Hands.{hand_id, hand_pushed};
 ghost use Rattle.chr_pool.specs.Inlets.{inlet_id};
-ghost use Rattle.chr_pool.specs.Pools.{OfOneMake};
+ghost use Rattle.chr_pool.specs.Pools.{OfOneMake, pool_pushed};
 ghost use Rattle.chr_book.specs.Shots.{IsShotOf, Continues};
 ghost use Rattle.chr_seats.specs.Accounts.{AreNamed, log_of, counts_in, made_upto, AreSeats};
 ghost use Rattle.chr_seats.specs.Holds.{HasHeadline};
+ghost use Rattle.chr_crew.specs.Pools.{AreFree, HaveRoom};
 ghost use Rattle.chr_crew.specs.Runs.{IsWorkedOn};
 ghost use Rattle.chr_crew.specs.declared.crew.End.TheVariants.{Quiet};
 ghost use Rattle.chr_crew.specs.declared.crew.Cause.TheVariants.{NoMemory};
@@ -24,8 +26,11 @@ use std::sync::Wait;
 use std::sync::ledger::Ledger;
 use std::thread::Threads;
 
-/// How many tickets each hand takes before it takes memory.
-const CAPACITY: u64 = 64;
+/// How many tickets each hand takes at least before it takes memory.
+const LEAST_CAPACITY: u64 = 64;
+
+/// For how many tickets a hand has room at most before it takes memory.
+const MOST_CAPACITY: u64 = (1 << 32) - 1;
 
 /// How a run ended.
 #[derive(Clone, Copy, Debug, PartialEq, Eq)]
@@ -71,6 +76,7 @@ pub struct CrewFault<A: Allocator> {
 #[derive(Drop)]
 struct Room<L1: PostLedger, L2: Ledger, A: Allocator> {
     before: Shot<A>,
+    /// Those that wait or rest.
     tickets: Vec<u64, A>,
     hands: Vec<Hand<u64>>,
     inlets: Vec<Inlet<u64>>,
@@ -80,17 +86,40 @@ struct Room<L1: PostLedger, L2: Ledger, A: Allocator> {
     counts: Vec<Counts, A>,
 }
 
-/// The tickets of a book that wait or rest. An `Err` is E01.
-fn free_tickets<A: Allocator + Copy>(alloc: A, book: &Book<A>) -> Result<Vec<u64, A>, AllocError> {
-    let mut tickets = Vec::new(alloc);
+/// Lists the tickets of a book that wait or rest. An `Err` is E01, also where there are tickets of all numbers.
+fn free_tickets<A: Allocator + Copy>(alloc: A, book: &Book<A>) -> Result<Vec<u64, A>, AllocError>
+    ensures { IfOk result (λ free. AreFree book.now.tickets free.items) }
+{
+    let mut free = Vec::new(alloc);
     for ticket in 1..u64::MAX {
         match book.state(ticket) {
-            TicketState::Unknown => break,
-            TicketState::Waiting | TicketState::Resting => tickets.push(ticket)?,
-            TicketState::Held(_) | TicketState::Ended => {}
+            TicketState::Unknown => return Ok(free),
+            TicketState::Waiting | TicketState::Resting => free.push(ticket)?,
+            TicketState::Held(_) => {}
+            TicketState::Ended => {}
         }
     }
-    Ok(tickets)
+    Err(AllocError)
+}
+
+/// Makes a pool of `n` hands and one inlet, in which nothing was pushed yet, with room for so many tickets, dealt in turn. An `Err`
+/// is E01, also where a hand is dealt more than [`MOST_CAPACITY`].
+fn make_pool(
+    pool: Global,
+    n: usize,
+    tickets: usize,
+) -> Result<(Vec<Hand<u64>>, Vec<Inlet<u64>>), AllocError>
+    requires { (1 ≤ n) × (n ≤ 16) }
+    ensures one { IfOk result (λ r. OfOneMake (map hand_id r.0.items) (map inlet_id r.1.items)) }
+    ensures count { IfOk result (λ r. length r.0.items ≡ n) }
+    ensures empty { IfOk result (λ r. pool_pushed r.0.items r.1.items ≡ []) }
+    ensures room { IfOk result (λ r. HaveRoom tickets r.0.items) }
+{
+    let before = (tickets / n) as u64;
+    if before >= MOST_CAPACITY {
+        return Err(AllocError);
+    }
+    make(pool, n, 1, LEAST_CAPACITY.max(before + 1))
 }
 
 /// Makes room for a run of `n` workers. An `Err` is E01.
@@ -102,45 +131,42 @@ fn make_room<L1: PostLedger, L2: Ledger, A: Allocator + Copy>(
 ) -> Result<Room<L1, L2, A>, AllocError>
     requires { (1 ≤ n) × (n ≤ 16) }
     ensures shot { IfOk result (λ r. IsShotOf book.now r.before) }
+    ensures free { IfOk result (λ r. AreFree book.now.tickets r.tickets.items) }
     ensures pool { IfOk result (λ r. OfOneMake (map hand_id r.hands.items) (map inlet_id r.inlets.items)) }
     ensures hands { IfOk result (λ r. length r.hands.items ≡ n) }
+    ensures empty { IfOk result (λ r. flat_map hand_pushed r.hands.items ≡ []) }
+    ensures room { IfOk result (λ r. HaveRoom (length r.tickets.items) r.hands.items) }
     ensures workers { IfOk result (λ r. (vec_len r.workers ≡ 0) × (16 ≤ vec_capacity r.workers)) }
     ensures counts { IfOk result (λ r. (vec_len r.counts ≡ 0) × (16 ≤ vec_capacity r.counts)) }
 {
-    match (
-        Vec::with_capacity(alloc, WORKER_SEATS),
-        Vec::with_capacity(alloc, WORKER_SEATS),
-        book.shot(),
-        free_tickets(alloc, book),
-        make(pool, n, 1, CAPACITY),
-    ) {
-        (Ok(workers), Ok(counts), Ok(before), Ok(tickets), Ok((hands, inlets))) => Ok(Room {
-            before,
-            tickets,
-            hands,
-            inlets,
-            workers,
-            counts,
-        }),
-        _ => Err(AllocError),
-    }
+    let workers = Vec::with_capacity(alloc, WORKER_SEATS)?;
+    let counts = Vec::with_capacity(alloc, WORKER_SEATS)?;
+    let before = book.shot()?;
+    let tickets = free_tickets(alloc, book)?;
+    let (hands, inlets) = make_pool(pool, n, tickets.len())?;
+    Ok(Room {
+        before,
+        tickets,
+        hands,
+        inlets,
+        workers,
+        counts,
+    })
 }
 
-/// Pushes tickets on the hands in turn. One that a hand refuses is marked stray.
-fn deal<L1: PostLedger, L2: Ledger, A: Allocator + Copy, R: Wait>(
-    rt: &R,
-    shared: &Shared<L1, L2, A>,
-    hands: &mut Vec<Hand<u64>>,
-    tickets: &[u64],
-)
-    requires { 0 < length hands.old.items }
+/// Pushes tickets on the hands in turn, on which nothing was pushed yet. Each hand has room for its part of them.
+fn deal(hands: &mut Vec<Hand<u64>>, tickets: &[u64])
+    requires some { 0 < length hands.old.items }
+    requires empty { flat_map hand_pushed hands.old.items ≡ [] }
+    requires room { HaveRoom (length tickets.now) hands.old.items }
     ensures same { map hand_id hands.new.items ≡ map hand_id hands.old.items }
     ensures count { length hands.new.items ≡ length hands.old.items }
+    ensures dealt { IsPermutation tickets.now (flat_map hand_pushed hands.new.items) }
 {
     for k in 0..tickets.len() {
         let hand = k % hands.len();
         if hands[hand].push(tickets[k]).is_err() {
-            let _ = shared.mark_stray(rt, tickets[k]);
+            unreachable!();
         }
     }
 }
@@ -220,13 +246,15 @@ fn work_together<
     requires room { (16 ≤ vec_capacity room.old.workers) × (16 ≤ vec_capacity room.old.counts) }
     requires workers { (log : List (Entry ℕ)) × AreSeats log 0 seats.workers.items }
     requires sessions { vec_len seats.sessions ≡ 16 }
+    requires empty_pool { flat_map hand_pushed room.old.hands.items ≡ [] }
+    requires room_for_all { HaveRoom (length room.old.tickets.items) room.old.hands.items }
     ensures all { IsTrue result.1 → vec_len room.new.counts ≡ length room.old.hands.items }
     ensures each { IsTrue result.1 → (k : ℕ) (d : _) → k < length room.old.hands.items → get_or room.new.counts.items k d ≡ counts_in result.0.log (k + 1) }
     ensures hands { map hand_id room.new.hands.items ≡ map hand_id room.old.hands.items }
     ensures same { (room.new.before ≡ room.old.before) × (room.new.inlets ≡ room.old.inlets) }
 {
     let mut seats = seats;
-    deal(rt, &shared, &mut room.hands, &room.tickets);
+    deal(&mut room.hands, &room.tickets);
     join_all(&mut room.hands, &mut seats.workers, &mut room.workers);
     work_all(rt, &shared, &mut room.workers, gate, Stop::Turns(turns));
     let kept = shared.into_kept();

@@ -4,7 +4,8 @@ use Rattle.chr_calls.specs.Books.{BookState}
 use Rattle.chr_book.specs.Shots.{IsShotOf, Continues}
 use Rattle.chr_seats.specs.Accounts.{counts_in}
 use Rattle.chr_crew.specs.Runs.{IsWorkedOn}
-use Rattle.chr_crew.proofs.Runs.{ok_with, err_then, worked_on, not_worked_on}
+use Rattle.chr_crew.proofs.Answering.{ok_with, err_then}
+use Rattle.chr_crew.proofs.Runs.{worked_on, not_worked_on}
 use Rattle.chr_crew.proofs.crew.run_crew.Goals as goal
 
 pub returns-in-Ok-with-clause-worked_on : goal.returns-in-Ok-with-clause-worked_on
