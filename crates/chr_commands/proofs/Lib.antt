@@ -1,4 +1,5 @@
 mod Alone
 mod Counting
+mod Lawful
 mod Quiet
 mod Told

@@ -1,5 +1,6 @@
 //! `chr check`.
-ghost use Rattle.std.specs.Prelude.{◌≡◌, ◌≢◌, ◌⊎◌, IsOk, IsErr};
+ghost use Rattle.std.specs.Prelude.{◌≡◌, ◌≢◌, ◌⊎◌, map, IsOk, IsErr};
+ghost use Rattle.chr_commands.specs.Checks.{IsLawful, IsRefused};
 
 use crate::ending::Status;
 use crate::message::{Detail, Fault, Source, Text, part_message, refusal_message};
@@ -165,6 +166,7 @@ fn report_parts_fault<R: Eprint + AllocGlobal>(
 
 /// Checks the log of some texts, and writes the answer to standard output. After a fault in one of the texts nothing is
 /// written there.
+#[tactic(auto, using(crate::proofs::Lawful::lawful_with, crate::proofs::Lawful::refused_with, crate::proofs::Lawful::unread_with))]
 pub(crate) fn check_sources<'s, R: Clock + Print + Eprint + AllocGlobal>(
     rt: &R,
     detail: Detail,
@@ -172,7 +174,9 @@ pub(crate) fn check_sources<'s, R: Clock + Print + Eprint + AllocGlobal>(
     log: &'s [Source<'s>],
     store: Source<'s>,
 ) -> Status
-    ensures { result ≢ Status.Open }
+    ensures run { result ≡ Status.Done → IsLawful program.entry.bytes.now (map (λ text. text.bytes.now) log.now) store.entry.bytes.now }
+    ensures refused { result ≡ Status.Fault → IsRefused program.entry.bytes.now (map (λ text. text.bytes.now) log.now) store.entry.bytes.now }
+    ensures closed { result ≢ Status.Open }
 {
     let Ok(parts) = texts(rt.alloc(), log) else {
         return report_no_memory(rt, detail);
