@@ -3,9 +3,6 @@ use denote.RattleType.{RattleType}
 use denote.Param.Send.{AllSend, AllSync, IsSend, IsSync, Frees, sendable, recorded_send, recorded_sync, struct_send, struct_sync}
 use denote.Struct.Declared.{Declared, shape, row}
 use denote.Struct.Struct.{Struct}
-use Rattle.std.specs.contracts.option.Option as Option
-use Rattle.std.specs.contracts.boxed.Box as Box
-use Rattle.std.specs.contracts.vec.Vec as Vec
 use Rattle.std.proofs.Crossing as heap
 use Rattle.std.proofs.CrossingOver as over
 use Rattle.std.proofs.MapsCrossingOver as maps

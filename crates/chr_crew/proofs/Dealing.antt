@@ -2,9 +2,9 @@
 use Rattle.std.proofs.Common.{◌≡◌, ℕ, zero, suc, ◌+◌, ◌*◌, ◌/◌, ◌%◌, ◌<◌, ◌≤◌, ◌⊎◌, inl, inr, List, [], ◌∷◌, ◌++◌, map, length, set, get_or, All, refl, sym, ◌∙◌, ap, subst, arith, take, get_or-set_same, get_or-set_other}
 use Rattle.std.specs.List.{sum_by, flat_map}
 use Rattle.std.proofs.Math.ListN.{get_or-map}
-use Rattle.std.proofs.lemmas.Nat.{mul-le, div-mul-add}
+use Rattle.std.proofs.lemmas.Nat.{mul-le}
 use Rattle.std.proofs.lemmas.List.{length-map, length-set, length_push}
-use Rattle.std.proofs.lemmas.List.Sums.{sum_by-set, sum_by-append, sum_by_push, sum_by_more}
+use Rattle.std.proofs.lemmas.List.Sums.{sum_by-set, sum_by_push, sum_by_more}
 use Rattle.std.proofs.lemmas.Bool.{cases_lt, cases_eq}
 use Rattle.chr_pool.specs.declared.hand.Hand.{Hand}
 use Rattle.chr_pool.specs.Hands.{HandId, hand_id, hand_capacity, hand_pushed}
@@ -63,8 +63,10 @@ parts_more hands k d x some parts longer j e within = by_cases (cases_eq j (k % 
     as_told h is part =
         subst (λ n. n * length (hand_pushed (get_or (set hands (k % length hands) x) j e)) + j < k + 1 + n) (sym (length-set hands (k % length hands) x))
         (subst (λ (y : Hand ℕ). length hands * length (hand_pushed y) + j < k + 1 + length hands) (sym is) part)
+
     turn : k % length hands < length hands
     turn = omega (arith, some)
+
     by_cases : (j ≡ k % length hands) ⊎ (j ≡ k % length hands → ⊥) → length (set hands (k % length hands) x) * length (hand_pushed (get_or (set hands (k % length hands) x) j e)) + j < k + 1 + length (set hands (k % length hands) x)
     by_cases (inl same) =
         let c : ℕ = length (hand_pushed (get_or hands (k % length hands) d)) in
@@ -111,12 +113,12 @@ never_full start hands count len k x is same long some room parts below at full 
     let here : x ≡ get_or hands (k % length hands) x = at ∙ ap (λ m. get_or hands (k % m) x) is in
     let within : k % length hands < length (map hand_capacity start) = omega (arith, turn, long, length-map start hand_capacity) in
     let capacity : get_or (map hand_capacity start) (k % length hands) (hand_capacity x) ≡ hand_capacity x =
-        ap (λ cs. get_or cs (k % length hands) (hand_capacity x)) (sym (same_capacities hands start same))
-        ∙ get_or-map hand_capacity hands (k % length hands) x ∙ ap hand_capacity (sym here) in
+    ap (λ cs. get_or cs (k % length hands) (hand_capacity x)) (sym (same_capacities hands start same))
+    ∙ get_or-map hand_capacity hands (k % length hands) x ∙ ap hand_capacity (sym here) in
     let all : count ≤ length hands * hand_capacity x =
-        subst (λ m. count ≤ m * hand_capacity x) (sym long) (subst (λ c. count ≤ length start * c) capacity (room (k % length hands) (hand_capacity x) within)) in
+    subst (λ m. count ≤ m * hand_capacity x) (sym long) (subst (λ c. count ≤ length start * c) capacity (room (k % length hands) (hand_capacity x) within)) in
     let part : length hands * length (hand_pushed x) + k % length hands < k + length hands =
-        subst (λ (h : Hand ℕ). length hands * length (hand_pushed h) + k % length hands < k + length hands) (sym here) (parts (k % length hands) x turn) in
+    subst (λ (h : Hand ℕ). length hands * length (hand_pushed h) + k % length hands < k + length hands) (sym here) (parts (k % length hands) x turn) in
     has_room (length hands) k count (hand_capacity x) (length (hand_pushed x)) some below all part full
 
 -- one ticket more is dealt
@@ -124,7 +126,7 @@ pub parts_after : (hands : List (Hand ℕ)) (len k n : ℕ) (x y : Hand ℕ) →
 parts_after hands len k n x y is some parts at longer =
     let here : x ≡ get_or hands (k % length hands) x = at ∙ ap (λ m. get_or hands (k % m) x) is in
     let count : length (hand_pushed y) ≡ length (hand_pushed (get_or hands (k % length hands) x)) + 1 =
-        ap length longer ∙ length_push (hand_pushed x) n ∙ ap (λ (h : Hand ℕ). length (hand_pushed h) + 1) here in
+    ap length longer ∙ length_push (hand_pushed x) n ∙ ap (λ (h : Hand ℕ). length (hand_pushed h) + 1) here in
     subst (λ m. HaveParts (set hands (k % m) y) (k + 1)) (sym is) (parts_more hands k x y some parts count)
 
 -- hands with this capacity have room

@@ -2,7 +2,7 @@ use Rattle.std.proofs.Common.{◌≡◌, ◌<◌, ◌%◌, ◌∙◌, ◌++◌, 
 use Rattle.std.specs.List.{sum_by, flat_map}
 use Rattle.std.proofs.Math.Seq.{map-set_same}
 use Rattle.std.proofs.lemmas.List.{length-set, take_all}
-use Rattle.chr_pool.specs.Hands.{hand_id, hand_capacity, hand_pushed}
+use Rattle.chr_pool.specs.Hands.{hand_id, hand_pushed}
 use Rattle.chr_pool.proofs.ViewLists.{permutes}
 use Rattle.chr_crew.proofs.Answering.{at_err, at_ok}
 use Rattle.chr_crew.proofs.Dealing.{no_parts, never_full, dealt_more, parts_after}

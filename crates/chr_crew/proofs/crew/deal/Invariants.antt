@@ -1,4 +1,4 @@
-use Rattle.std.specs.Prelude.{◌≡◌, ◌+◌, ◌<◌, ℕ, List, map, length, take}
+use Rattle.std.specs.Prelude.{◌≡◌, ◌+◌, ◌<◌, ℕ, map, length, take}
 use Rattle.std.specs.List.{sum_by, flat_map}
 use Rattle.chr_pool.specs.Hands.{hand_id, hand_pushed}
 use Rattle.chr_crew.proofs.Dealing.{HaveParts}

@@ -1,4 +1,4 @@
-use Rattle.std.proofs.Common.{◌≡◌, ◌+◌, ◌∙◌, sym, ap, subst}
+use Rattle.std.proofs.Common.{◌+◌, ◌∙◌, sym, ap, subst}
 use Rattle.chr_calls.specs.Tickets.{state_of, IsClaimable}
 use Rattle.chr_calls.specs.declared.answers.TicketState.TheVariants.{Held, Ended}
 use Rattle.chr_crew.proofs.Free.{AreFreeBelow, unknown_past, claimable_free, not_claimable, unclaimable_held, unclaimable_ended, free_more, free_same, free_all}
