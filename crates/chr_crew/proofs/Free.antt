@@ -51,6 +51,7 @@ unknown_past ts t low h = by_cases (cases_lt t (length ts))
     known (Numbered l) (Some s) e = cc
     known (Numbered l) None e = cc
     known goals.Ended o e = cc
+
     by_cases : (t < length ts) ⊎ (length ts ≤ t) → length ts ≤ t
     by_cases (inl within) = absurd (known (ticket_at ts t).goal (ticket_at ts t).holder (sym (given_state ts t low within) ∙ h))
     by_cases (inr past) = past
@@ -90,10 +91,13 @@ rising_more free n rising below k within = by_cases (cases_lt (k + 1) (length fr
   where
     long : length (free ++ n ∷ []) ≡ length free + 1
     long = length_push free n
+
     here : k < length free
     here = omega (arith, within, long)
+
     first : get_or (free ++ n ∷ []) k 0 ≡ get_or free k 0
     first = get_or-append free (n ∷ []) 0 k here
+
     by_cases : (k + 1 < length free) ⊎ (length free ≤ k + 1) → get_or (free ++ n ∷ []) k 0 < get_or (free ++ n ∷ []) (k + 1) 0
     by_cases (inl inside) = omega (arith, first, get_or-append free (n ∷ []) 0 (k + 1) inside, rising k inside)
     by_cases (inr last) =
@@ -109,6 +113,7 @@ free_more tickets n free f c = record {
     is_one : (t : ℕ) → Contains free t ⊎ (n ≡ t) → (t < n + 1) × IsClaimable (state_of tickets t)
     is_one t (inl in') = (let low = (f.are t in').0 in omega arith, (f.are t in').1)
     is_one t (inr same) = (omega (arith, same), subst (λ u. IsClaimable (state_of tickets u)) same c)
+
     is_there : (t : ℕ) → (t < n) ⊎ (n ≤ t) → t < n + 1 → IsClaimable (state_of tickets t) → Contains (free ++ n ∷ []) t
     is_there t (inl low) below claimable = Contains-append_left free (n ∷ []) t (f.all t low claimable)
     is_there t (inr high) below claimable = let same : n ≡ t = omega (arith, high, below) in subst (Contains (free ++ n ∷ [])) same (Contains-push free n)
