@@ -10,12 +10,18 @@ use std::os::fd::AsRawFd;
 use std::os::unix::net::{SocketAddr, UnixStream};
 use std::test::*;
 
-/// The number that the system gives the next descriptor: the least that is free.
-fn next_descriptor<R: Net>(rt: &R) -> Option<i32> {
-    match UnixStream::pair(rt) {
-        Ok((one, _)) => Some(one.as_raw_fd()),
-        Err(_) => None,
+/// How many pairs of sockets are opened. These are more descriptors than the tests here have open at once.
+const PAIRS: usize = 64;
+
+/// The greatest number of the descriptors of so many new pairs. Since the system gives the least numbers that are free, it
+/// grows by one with each descriptor that was open before, whatever the numbers of these are.
+fn greatest_descriptor<R: Net + AllocGlobal>(rt: &R) -> Option<i32> {
+    let mut pairs = Vec::new(rt.alloc());
+    for _ in 0..PAIRS {
+        pairs.push(UnixStream::pair(rt).ok()?).ok()?;
     }
+    let (one, other) = pairs.last()?;
+    Some(one.as_raw_fd().max(other.as_raw_fd()))
 }
 
 /// What clients tell that don't end it.
@@ -118,8 +124,8 @@ fn seated_at_last<R: Net + AllocGlobal>(
 /// How many connections are opened and cut.
 const CUT: u32 = 10_000;
 
-/// Waits for sixteen seats. The number of the next descriptor while clients have them.
-fn next_beside_sixteen<R: Net + AllocGlobal>(rt: &R, address: &SocketAddr) -> Option<i32> {
+/// Waits for sixteen seats. The greatest descriptor beside the clients that have them.
+fn greatest_beside_sixteen<R: Net + AllocGlobal>(rt: &R, address: &SocketAddr) -> Option<i32> {
     let mut clients = Vec::new(rt.alloc());
     for _ in 0..16 {
         if !is_added(&mut clients, seated_at_last(rt, address, "quiet\n")) {
@@ -127,39 +133,39 @@ fn next_beside_sixteen<R: Net + AllocGlobal>(rt: &R, address: &SocketAddr) -> Op
         }
     }
     // Each of the sixteen threads has a session now, so it has closed those before.
-    next_descriptor(rt)
+    greatest_descriptor(rt)
 }
 
 /// The same after a client has loaded and ten thousand connections were cut.
-fn next_after_cuts<R: Net + AllocGlobal>(rt: &R, address: &SocketAddr) -> Option<i32> {
+fn greatest_after_cuts<R: Net + AllocGlobal>(rt: &R, address: &SocketAddr) -> Option<i32> {
     let loads = plays(rt, address, &[(LOAD, "loaded 2\n")]);
     open_and_cut(rt, address, CUT).ok()?;
-    let next = next_beside_sixteen(rt, address)?;
-    loads.then_some(next)
+    let greatest = greatest_beside_sixteen(rt, address)?;
+    loads.then_some(greatest)
 }
 
-/// The number of the next descriptor beside a listener and sixteen connections, of which both ends are open.
-fn next_beside_pairs<R: Files + Net + AllocGlobal>(rt: &R) -> Option<i32> {
+/// The greatest descriptor beside a listener and sixteen connections, of which both ends are open.
+fn greatest_beside_pairs<R: Files + Net + AllocGlobal>(rt: &R) -> Option<i32> {
     let (_listener, _) = listen(rt).ok()?;
     let mut pairs = Vec::new(rt.alloc());
     for _ in 0..16 {
         pairs.push(UnixStream::pair(rt).ok()?).ok()?;
     }
-    next_descriptor(rt)
+    greatest_descriptor(rt)
 }
 
 #[test]
 fn nothing_is_left_of_ten_thousand_connections(rt: HostRuntime) {
-    let before = next_descriptor(&rt);
-    let beside_pairs = next_beside_pairs(&rt);
-    let found = found_until(&rt, 2, |address| next_after_cuts(&rt, address));
+    let before = greatest_descriptor(&rt);
+    let beside_pairs = greatest_beside_pairs(&rt);
+    let found = found_until(&rt, 2, |address| greatest_after_cuts(&rt, address));
     let more = match (found, beside_pairs) {
         (Some(Some(found)), Some(beside_pairs)) => found.wrapping_sub(beside_pairs),
         _ => -1,
     };
-    // The system keeps a number for the connection that a server waits for, once it does.
+    // The system keeps a number for the connection that a server waits for, once it waits.
     assert!(rt; matches!(more, 0 | 1), "{found:?} {beside_pairs:?}");
-    assert_eq!(rt; next_descriptor(&rt), before);
+    assert_eq!(rt; greatest_descriptor(&rt), before);
 }
 
 /// Whether a client can wait for a run without an end. It goes away then.
