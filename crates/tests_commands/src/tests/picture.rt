@@ -76,14 +76,29 @@ fn a_picture_that_is_cut(rt: HostRuntime) -> Result<(), Fail> {
     Ok(())
 }
 
+/// How many firings are drawn of six constraints each, which are 10,002.
+const FIRINGS: u32 = 1_667;
+
+/// Adds a firing that removes six constraints, whose labels are those of their goals.
+fn add_firing(log: &mut String, first: u64) -> Result<(), AllocError> {
+    write!(log, "F {first} 1 \\{first}")?;
+    for after in 1..6u64 {
+        write!(log, ",{}", first.saturating_add(after))?;
+    }
+    log.push_str("\n")
+}
+
 #[test]
 fn a_picture_of_too_many_constraints(rt: HostRuntime) -> Result<(), Fail> {
-    fs::write(&rt, "picture.chr", b"a, b <=> c.".as_slice())?;
-    let log = log_of(rt.alloc(), 10_001, true)?;
+    fs::write(&rt, "picture.chr", b"a, a, a, a, a, a <=> true.".as_slice())?;
+    let mut log = log_of(rt.alloc(), 6 * FIRINGS, true)?;
+    for firing in 0..FIRINGS {
+        add_firing(&mut log, u64::from(firing) * 6 + 1)?;
+    }
     fs::write(&rt, "picture.txt", log.as_str())?;
     let range = Range {
-        from: 20_002,
-        to: 20_002,
+        from: 12 * FIRINGS + 1,
+        to: 13 * FIRINGS,
     };
     let stage = Stage::new(&rt, b"");
     let status = picture(&stage, Detail::Line, "picture.chr", "picture.txt", range);

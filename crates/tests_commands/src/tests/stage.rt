@@ -26,17 +26,22 @@ pub struct Stage<'r> {
 }
 
 impl<'r> Stage<'r> {
-    /// A system on which nothing fails, with this standard input.
-    pub fn new(rt: &'r HostRuntime, input: &'r [u8]) -> Stage<'r> {
+    /// A system on which nothing fails, with this standard input and these words of the command line.
+    fn of(rt: &'r HostRuntime, input: &'r [u8], words: &'r [&'r [u8]]) -> Stage<'r> {
         Stage {
             rt,
             input,
             room: usize::MAX,
             renamings: Cell::new(u32::MAX),
-            words: &[],
+            words,
             printed: RefCell::new(String::new(rt.alloc())),
             said: RefCell::new(String::new(rt.alloc())),
         }
+    }
+
+    /// A system on which nothing fails, with this standard input.
+    pub fn new(rt: &'r HostRuntime, input: &'r [u8]) -> Stage<'r> {
+        Stage::of(rt, input, &[])
     }
 
     /// A system whose standard output takes so many bytes.
@@ -55,9 +60,7 @@ impl<'r> Stage<'r> {
 
     /// A system with these words of the command line.
     pub fn with_words(rt: &'r HostRuntime, words: &'r [&'r [u8]]) -> Stage<'r> {
-        let mut stage = Stage::new(rt, b"");
-        stage.words = words;
-        stage
+        Stage::of(rt, b"", words)
     }
 
     /// Whether this is what was printed.
