@@ -15,8 +15,8 @@
 //!   time: a file, a stream or memory failed.
 //! - What is read of a file: its bytes up to its text's limit and one, which shows a text that is too long ([`files`]).
 //! - That paths, posts and parts of a log are taken in order, and which part has a line ([`parts`]).
-//! - That what is printed and what is written to each file of a run is what it is to be, all of which is made before any of
-//!   it is written ([`run`]); and that outputs which lead to one file are told ([`outputs`]).
+//! - That a run prints, and writes to each file, the texts that its book has. It makes all of them before it writes any
+//!   ([`run`]). It refuses two outputs that lead to one file ([`outputs`]).
 //!
 //! That files are written all or none ([`writing`]) is tested, since no clause says what a file holds. That the bytes that
 //! were read are what a run, a check, an explanation, a picture or a session has is proved below, in `chr_run_text`,
@@ -48,4 +48,5 @@ pub mod writing;
 pub use chr_command_line::Masked;
 pub use ending::Status;
 pub use message::Detail;
+pub use outputs::Node;
 pub use report::{print_usage, report_failure, report_no_memory, report_words};

@@ -1,4 +1,4 @@
-//! Whether two paths to write lead to one file.
+//! The files that paths to write lead to.
 ghost use Rattle.std.specs.Prelude.{◌↔◌, IsTrue};
 ghost use Rattle.chr_commands.specs.Outputs.{AreOneFile};
 
@@ -25,7 +25,8 @@ pub struct Node {
 }
 
 impl Node {
-    fn of(found: &Metadata) -> Node {
+    /// Returns the numbers of a file that the system has described.
+    pub fn of(found: &Metadata) -> Node {
         Node {
             device: found.dev(),
             number: found.ino(),
@@ -45,7 +46,7 @@ pub enum Place {
 }
 
 impl Place {
-    /// Whether the two are one file, of which a second text would replace the first.
+    /// Returns whether both lead to one file, so that the second text would replace the first.
     pub fn is_file_of(&self, other: &Place) -> bool
         ensures { IsTrue result ↔ AreOneFile self.now other.now }
     {
@@ -72,12 +73,12 @@ pub fn split(path: &str) -> (&str, &str) {
     }
 }
 
-/// Whether the system answers so where no symbolic link is at a path.
+/// Returns whether the system answers so where no symbolic link is at a path.
 fn is_no_link(error: &io::Error) -> bool {
     matches!(error.kind(), ErrorKind::InvalidInput | ErrorKind::NotFound)
 }
 
-/// Whether a path is a link to a file that a process has open, as `/dev/fd/3` leads to one.
+/// Returns whether a path is a link to a file that a process has open, as `/dev/fd/3` is.
 fn is_descriptor<R: Files>(rt: &R, path: &str) -> bool {
     match (
         fs::symlink_metadata(rt, path),

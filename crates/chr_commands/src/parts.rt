@@ -1,4 +1,4 @@
-//! The texts of a command, of which several may be parts of one.
+//! The texts that a command reads. Several files may hold parts of one text.
 ghost use Rattle.std.specs.Prelude.{◌≡◌, ◌⊎◌, List, [], ◌∷◌, ◌++◌, map, length, IfOk};
 ghost use Rattle.chr_commands.specs.declared.message.Source.{Source};
 ghost use Rattle.chr_commands.specs.Parts.{line_ends, counted_after, CountFrom, IsPartWith};

@@ -1,5 +1,6 @@
 //! The heads of a rule, with the entries of a store that are picked for them.
 ghost use Rattle.std.specs.Prelude.{◌≡◌, ◌≤◌, ◌<◌, ◌+◌, length, MatchOption};
+ghost use Rattle.chr_value.specs.Bounds.{most_heads};
 ghost use Rattle.chr_guard.specs.Bindings.{Narrows, NoneUnder};
 ghost use Rattle.chr_model.specs.Stores.{among, labels, Distinct};
 ghost use Rattle.chr_enumeration.specs.Found.{listed};
@@ -99,7 +100,7 @@ pub fn fit_next<'s, A: Allocator + Copy>(
 
 /// The labels that are picked, in head order.
 fn labels_of<A: Allocator>(slots: &[Option<(Label, &Atom<A>)>]) -> Labels
-    requires { length slots.now ≤ 6 }
+    requires { length slots.now ≤ most_heads }
     ensures { result.items ≡ labels (picked (picks slots.now)) }
 {
     let mut found = Labels::new();

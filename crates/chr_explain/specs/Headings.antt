@@ -1,5 +1,6 @@
 -- What the text of a program says of its rules besides their meaning.
 use Rattle.std.specs.Prelude.{ℕ, nat_lt, List, [], ◌∷◌, length, flat_map, Option, Some, None, Result, Ok, Err, if◌then◌else◌}
+use Rattle.chr_value.specs.Bounds.{most_variables}
 use Rattle.chr_lex.specs.declared.fault.Kind.{Kind}
 use Rattle.chr_lex.specs.Items.{Item, items_of}
 use Rattle.chr_lex.specs.Tokens.{Lexeme, OfWord, OfMark, tokens_of}
@@ -28,7 +29,8 @@ variables_of lexemes = seen (flat_map lexeme_variables lexemes)
 -- No rule may have more than 24 variables.
 abbrev pub with_variables : ℕ → List (List ℕ) → List Heading
 with_variables line variables =
-    if nat_lt 24 (length variables) then [] else record { line = line; variables = variables } ∷ []
+    if nat_lt most_variables (length variables) then []
+    else record { line = line; variables = variables } ∷ []
 
 -- the heading of a statement that is a rule
 abbrev pub statement_heading : ℕ → List Lexeme → Result parsed.Statement Kind → List Heading

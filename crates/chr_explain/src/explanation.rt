@@ -1,5 +1,6 @@
 //! The explanation of a label of a lawful log.
 ghost use Rattle.std.specs.Prelude.{◌≡◌, ◌++◌, ◌∷◌, ◌≤◌, [], length, map, flat_map, IfOk, OnOk, MatchOption};
+ghost use Rattle.chr_value.specs.Bounds.{most_text_bytes};
 ghost use Rattle.chr_log.specs.Events.{events_of};
 ghost use Rattle.std.specs.List.{AllByRecursion};
 ghost use Rattle.chr_causes.specs.Origins.{IsLawful, IsOrigin, Gives};
@@ -128,7 +129,7 @@ pub fn explanation<A: Allocator + Copy>(
     question: Question,
 ) -> Result<Option<Vec<u8, A>>, AllocError>
     requires lawful { IsLawful program.now (events_of events.now) }
-    requires short { length text.now ≤ 65536 }
+    requires short { length text.now ≤ most_text_bytes }
     ensures { IfOk result (λ found. MatchOption found (¬ Gives (events_of events.now) question.label)
         (λ out. IsExplanation program.now (record { names = names.now; headings = headings_of text.now; log = events_of events.now }) question out.items)) }
 {

@@ -1,5 +1,6 @@
 //! What the text of a program says of its rules besides their meaning: their lines, and the names of their variables.
 ghost use Rattle.std.specs.Prelude.{◌≡◌, ◌≤◌, ◌<◌, zero, length, map, flat_map, IfOk, MatchOption};
+ghost use Rattle.chr_value.specs.Bounds.{most_text_bytes, most_variables};
 ghost use Rattle.chr_lex.specs.Items.{items, entry};
 ghost use Rattle.chr_lex.specs.Tokens.{lexeme};
 ghost use Rattle.chr_limits.specs.Variables.{seen};
@@ -41,7 +42,7 @@ fn meet_tokens<'a>(seen: &mut Seen<'a>, tokens: &[Token<'a>]) -> Option<()>
 
 /// The variables of tokens in text order, each once, and each `_` apart. None where there are more than a rule may have.
 fn variables<'a>(tokens: &[Token<'a>]) -> Option<Seen<'a>>
-    ensures { MatchOption result (24 < length (variables_of (map lexeme tokens.now))) (λ seen. names seen.items ≡ variables_of (map lexeme tokens.now)) }
+    ensures { MatchOption result (most_variables < length (variables_of (map lexeme tokens.now))) (λ seen. names seen.items ≡ variables_of (map lexeme tokens.now)) }
 {
     let mut seen = Seen::new();
     meet_tokens(&mut seen, tokens)?;
@@ -81,7 +82,7 @@ pub fn headings<'a, A: Allocator + Copy>(
     alloc: A,
     text: &'a [u8],
 ) -> Result<Vec<Heading<'a>, A>, AllocError>
-    requires { length text.now ≤ 65536 }
+    requires { length text.now ≤ most_text_bytes }
     ensures { IfOk result (λ list. map heading_view list.items ≡ flat_map item_heading (items zero 1 text.now)) }
 {
     let mut list = Vec::new(alloc);

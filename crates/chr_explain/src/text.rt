@@ -1,5 +1,6 @@
 //! From the bytes of a program and of a log to the bytes of an explanation.
 ghost use Rattle.std.specs.Prelude.{◌≡◌, ◌≤◌, ℕ, List, [], length, Ok, IfOk};
+ghost use Rattle.chr_value.specs.Bounds.{most_text_bytes};
 ghost use Rattle.chr_log.specs.Events.{events_of};
 ghost use Rattle.chr_model.specs.Programs.{Instances};
 ghost use Rattle.chr_text.specs.Reading.{program_of};
@@ -73,7 +74,7 @@ fn explain_events<A: Allocator + Copy, W: Watch>(
     question: Question,
     watch: &mut W,
 ) -> Result<Vec<u8, A>, ExplainFault>
-    requires { length text.now ≤ 65536 }
+    requires { length text.now ≤ most_text_bytes }
     ensures { IsAnswer text.now program.now names.now version (events_of events.now) question (bytes_of (λ out. out.items) result) }
 {
     match fault_of(alloc, program, version, events, watch) {
@@ -98,7 +99,7 @@ fn explain_log<A: Allocator + Copy, W: Watch>(
     question: Question,
     watch: &mut W,
 ) -> Result<Vec<u8, A>, ExplainFault>
-    requires { length text.now ≤ 65536 }
+    requires { length text.now ≤ most_text_bytes }
     ensures { program_of [] text.now ≡ Ok (program.now, names.old) → IsExplainText text.now log.now question (bytes_of (λ out. out.items) result) }
 {
     match read_log(alloc, log, names) {

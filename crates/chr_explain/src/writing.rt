@@ -4,6 +4,7 @@ ghost use Rattle.std.specs.Prelude.{◌≡◌, ◌++◌, ◌∷◌, ◌≤◌, [
 ghost use Rattle.std.specs.Option.{option_map};
 ghost use Rattle.std.specs.Fmt.{decimal};
 ghost use Rattle.chr_value.specs.Atoms.{by_texts, said};
+ghost use Rattle.chr_value.specs.Bounds.{most_variables};
 ghost use Rattle.chr_value.specs.Spelling.{spell};
 ghost use Rattle.chr_limits.specs.Variables.{is_blank};
 ghost use Rattle.chr_limits.specs.Views.{names as texts};
@@ -135,7 +136,7 @@ fn put_variables<A: Allocator + Copy, C: Allocator>(
     variables: &[&[u8]],
     values: &Binding<'_, A>,
 ) -> Result<(), AllocError>
-    requires { length variables.now ≤ 24 }
+    requires { length variables.now ≤ most_variables }
     ensures { OnOk result (out.new.items ≡ out.old.items ++ values_from names.now values.now 0 (texts variables.now)) }
 {
     for (number, name) in variables.iter().enumerate() {

@@ -4,7 +4,8 @@ use Rattle.std.specs.List.{AllByRecursion}
 use Rattle.std.proofs.lemmas.Bool.Decides.{nat_tests}
 use Rattle.std.proofs.lemmas.List.{map-append, map_more, length-map, map_push, drop_all}
 use Rattle.chr_value.specs.Atoms.{Value, Comp, Args, Cons, Atom, Nil, args_of, ground, ground_comp, grounds}
-use Rattle.chr_value.specs.Limits.{IsWithin, depth, size, args_depth, args_size, most_depth, most_size}
+use Rattle.chr_value.specs.Bounds.{most_depth, most_size}
+use Rattle.chr_value.specs.Limits.{IsWithin, depth, size, args_depth, args_size}
 use Rattle.chr_value.proofs.Chosen.{some_is}
 use Rattle.chr_rule.specs.Rules.{Term, Var, Given, Open, Terms, End, And, RuleAtom, Expression, Number, Variable, Operation, BodyItem, Is, Add, terms_of}
 use Rattle.chr_rule.specs.Scope.{known_after_term, known_after_terms, known_after_args, known_after_heads}
@@ -59,10 +60,10 @@ args_within : (vs : List (Value ℕ)) → args_depth (args_of vs) ≤ most_depth
 args_within [] deep large = tt
 args_within (v ∷ vs) deep large = (record { depth = grind (arith, deep); size = omega (arith, large) }, args_within vs (grind (arith, deep)) (omega (arith, large)))
 
-pub comp_within : {A : Type 0} (c : CodeComp A) (vs : List (CodeValue A)) → vs ≡ c.args.items → IsWithin (ground_comp c) → AllByRecursion IsWithin (grounds vs)
+pub comp_within : {A : Type 0} (c : CodeComp A) (vs : List (CodeValue A)) → vs ≡ c.args.list.items → IsWithin (ground_comp c) → AllByRecursion IsWithin (grounds vs)
 comp_within c vs is w =
     subst (λ us. AllByRecursion IsWithin (grounds us)) (sym is)
-    (let deep = w.depth in let large = w.size in args_within (grounds c.args.items) (omega (arith, deep)) (omega (arith, large)))
+    (let deep = w.depth in let large = w.size in args_within (grounds c.args.list.items) (omega (arith, deep)) (omega (arith, large)))
 
 values_are : (value : Term ℕ → Option (Value ℕ)) (args : List (Term ℕ)) (vs : List (Value ℕ)) → (all_values value args ≡ Some vs) ↔ (map value args ≡ map (λ t. Some t) vs)
 values_are value [] [] = grind arith
@@ -277,7 +278,7 @@ pub weight-at : {A : Type 0} (ts : List (CodeTerm A)) (i : ℕ) (t : CodeTerm A)
 weight-at ts i t lt e = subst (λ u. term_weight (argument u) ≤ weights (map argument ts)) (sym e) (weight-there ts i t lt)
 
 -- a functor with terms weighs more than they do
-pub weight-parts : {A : Type 0} (term : CodeTerm A) (o : Box (CodeOpen A) A) (ts : List (CodeTerm A)) → term ≡ code.Open o → ts ≡ o.value.args.items → term_weight (argument term) ≡ suc (weights (map argument ts))
+pub weight-parts : {A : Type 0} (term : CodeTerm A) (o : Box (CodeOpen A) A) (ts : List (CodeTerm A)) → term ≡ code.Open o → ts ≡ o.value.args.list.items → term_weight (argument term) ≡ suc (weights (map argument ts))
 weight-parts term o ts is e = ap term_weight (argument-parts term o ts is e) ∙ ap suc (weights-terms (map argument ts))
 
 -- the values of arguments are those of the list
@@ -292,7 +293,7 @@ some-open f g o us e = grind arith
 
 -- a functor with terms is one with values where their arguments are
 pub under-open : {A : Type 0} (v : Valuation) (term : CodeTerm A) (o : Box (CodeOpen A) A) (c : CodeComp A) (ts : List (CodeTerm A)) (ws : List (CodeValue A))
-    → term ≡ code.Open o → o.value.functor.number ≡ c.functor.number → ts ≡ o.value.args.items → ws ≡ c.args.items
+    → term ≡ code.Open o → o.value.functor.number ≡ c.functor.number → ts ≡ o.value.args.list.items → ws ≡ c.args.list.items
     → (map (term_under v) (map argument ts) ≡ map (λ t. Some (ground t)) ws) ↔ (term_under v (argument term) ≡ Some (ground_comp c))
 under-open v term o c ts ws is functors ts-are ws-are =
     let l : term_under v (argument term) ≡ option_map (Comp o.value.functor.number) (terms_under v (terms_of (map argument ts))) = ap (term_under v) (argument-parts term o ts is ts-are) in
@@ -410,7 +411,7 @@ same-count v ts us h = sym (length-map ts argument) ∙ args-count v (map argume
 
 -- two functors with terms
 module _ {A : Type 0} (v : Valuation) (s t : CodeTerm A) (o p : Box (CodeOpen A) A) (is-s : s ≡ code.Open o) (is-t : t ≡ code.Open p) where
-  pub same-opens : (ts us : List (CodeTerm A)) → ts ≡ o.value.args.items → us ≡ p.value.args.items → o.value.functor.number ≡ p.value.functor.number
+  pub same-opens : (ts us : List (CodeTerm A)) → ts ≡ o.value.args.list.items → us ≡ p.value.args.list.items → o.value.functor.number ≡ p.value.functor.number
       → AreSame (terms_under v (terms_of (map argument ts))) (terms_under v (terms_of (map argument us))) ↔ AreSame (term_under v (argument s)) (term_under v (argument t))
   same-opens ts us are-ts are-us functors =
       let k = same-functors o.value.functor.number p.value.functor.number (terms_under v (terms_of (map argument ts))) (terms_under v (terms_of (map argument us))) functors in

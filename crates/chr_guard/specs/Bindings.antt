@@ -3,6 +3,7 @@ use Rattle.std.specs.Prelude.{◌≡◌, ℕ, zero, suc, Bool, true, false, ◌�
 use Rattle.std.specs.List.{AllByRecursion}
 use Rattle.std.specs.Int.{bit_at}
 use Rattle.chr_value.specs.Atoms.{Value, said}
+use Rattle.chr_value.specs.Bounds.{most_variables}
 use Rattle.chr_value.specs.Limits.{IsWithin}
 use Rattle.chr_value.specs.declared.value.ValueRef.{ValueRef}
 use Rattle.chr_rule.specs.Rules.{Term, Var, Expression, Number, Variable, Operation, Comparison, Compared, Same, Differ, BodyItem, Is, Add}
@@ -26,8 +27,8 @@ told_from bits x (b ∷ places) = told (bit_at bits x) b ∷ told_from bits (suc
 -- There are 24 places. The bits of this many variables say which are bound, each to a value within
 -- the limits, and those behind are 0.
 pub record AreBoundBy {A : Type 0} (bits variables : ℕ) (places : List (ValueRef A)) : Type 0 where
-  pub full : length places ≡ 24
-  pub within : variables ≤ 24
+  pub full : length places ≡ most_variables
+  pub within : variables ≤ most_variables
   pub behind : (x : ℕ) → variables ≤ x → bit_at bits x ≡ 0
   pub limits : (x : ℕ) → bit_at bits x ≡ 1 → IfSome (slice_get places x) (λ b. IsWithin (said b))
 

@@ -3,7 +3,8 @@ use Rattle.std.specs.Prelude.{◌≡◌, ◌≢◌, ℕ, Bool, true, not, ◌&&�
 use Rattle.std.specs.Option.{option_map}
 use Rattle.chr_value.specs.Atoms.{Value, Args, Nil, Cons}
 use Rattle.chr_value.specs.Atoms as terms
-use Rattle.chr_value.specs.Limits.{depth, size, most_depth, most_size}
+use Rattle.chr_value.specs.Bounds.{most_depth, most_size}
+use Rattle.chr_value.specs.Limits.{depth, size}
 use Rattle.chr_rule.specs.declared.expression.Operator.{Operator}
 use Rattle.chr_rule.specs.declared.expression.Operator.TheVariants.{Add, Sub, Mul, Quot, Rem, Mod}
 use Rattle.chr_rule.specs.declared.expression.Relation.{Relation}

@@ -3,6 +3,7 @@ ghost use Rattle.std.specs.Prelude.{◌≡◌, ◌≢◌, ◌<◌, ◌≤◌, �
 ghost use Rattle.std.specs.Int.{bit_at};
 ghost use Rattle.std.specs.Option.{option_map};
 ghost use Rattle.chr_value.specs.Atoms.{said, Int, Value};
+ghost use Rattle.chr_value.specs.Bounds.{most_variables};
 ghost use Rattle.chr_value.specs.Limits.{IsWithin};
 ghost use Rattle.chr_guard.specs.Bindings.{bound_at, NarrowsIf, Keeps, AreKnown};
 
@@ -23,7 +24,7 @@ impl Known {
     /// Whether a variable is among them.
     #[inline(always)]
     fn has(self, variable: u8) -> bool
-        requires { variable < 24 }
+        requires { variable < most_variables }
         ensures { IsTrue result ↔ (bit_at self.bits variable ≡ 1) }
     {
         (self.bits >> variable) & 1 == 1
@@ -32,7 +33,7 @@ impl Known {
     /// These and one variable more.
     #[inline(always)]
     fn with(self, variable: u8) -> Known
-        requires { variable < 24 }
+        requires { variable < most_variables }
         ensures here { bit_at result.bits variable ≡ 1 }
         ensures others { (x : ℕ) → x ≢ variable → bit_at result.bits x ≡ bit_at self.bits x }
     {
@@ -71,7 +72,7 @@ impl<'v, A: Allocator + Copy> Binding<'v, A> {
     /// This many variables, at most 24, which are all free.
     #[tactic(auto, using(crate::proofs::Bindings::told_none))]
     pub fn free(variables: usize) -> Binding<'v, A>
-        requires { variables ≤ 24 }
+        requires { variables ≤ most_variables }
         ensures { result ≡ replicate variables None }
     {
         Binding {
@@ -85,7 +86,7 @@ impl<'v, A: Allocator + Copy> Binding<'v, A> {
     #[tactic(auto, using(crate::proofs::Bindings::length_binding))]
     pub(crate) fn variables(&self) -> usize
         ensures count { result ≡ length self.now }
-        ensures few { result ≤ 24 }
+        ensures few { result ≤ most_variables }
     {
         self.variables
     }
@@ -94,7 +95,7 @@ impl<'v, A: Allocator + Copy> Binding<'v, A> {
     #[inline(always)]
     #[tactic(auto, using(crate::proofs::Bindings::told_none))]
     pub fn reset(&mut self, variables: usize)
-        requires { variables ≤ 24 }
+        requires { variables ≤ most_variables }
         ensures { self.new ≡ replicate variables None }
     {
         self.known = Known { bits: 0 };
@@ -205,7 +206,7 @@ impl<'v, A: Allocator + Copy> Binding<'v, A> {
 
     /// A copy with at least this many variables, at most 24: further ones are free.
     pub(crate) fn widened(&self, variables: usize) -> Binding<'v, A>
-        requires { variables ≤ 24 }
+        requires { variables ≤ most_variables }
         ensures places { variables ≤ length result }
         ensures same { (x : ℕ) → bound_at result x ≡ bound_at self.now x }
     {

@@ -1,5 +1,5 @@
 //! The body of a rule under a binding.
-ghost use Rattle.std.specs.Prelude.{◌≡◌, ◌↔◌, ◌<◌, ◌≤◌, [], true, false, List, ℕ, Some, None, map, length, IsTrue, IsSome, IfOk, MatchOption};
+ghost use Rattle.std.specs.Prelude.{◌≡◌, ◌↔◌, ◌<◌, ◌≤◌, [], true, false, List, ℕ, Some, None, map, length, IsTrue, IsSome, IfOk, IfSome, MatchOption, vec_len};
 ghost use Rattle.std.specs.Option.{option_map};
 ghost use Rattle.chr_value.specs.Atoms.{Atom, args_of, ground, grounds};
 ghost use Rattle.chr_rule.specs.Parts.{argument, member, shape};
@@ -15,7 +15,7 @@ use crate::terms::Plain;
 use crate::values::{are_bound, bound_value};
 use arrayvec::ArrayVec;
 use chr_rule::{BodyItem, Rule, RuleAtom, Term};
-use chr_value::{Atom, Comp, Value};
+use chr_value::{Arguments, Atom, Comp, Value};
 use std::alloc::{AllocError, Allocator};
 
 /// The atoms of a body, at most 16.
@@ -39,7 +39,7 @@ fn made<A: Allocator + Copy>(alloc: A, term: &Term<A>, binding: &Binding<'_, A>)
             let Some(args) = all_made(alloc, &open.args, binding)? else {
                 return Ok(None);
             };
-            let functor = open.functor;
+            let (functor, args) = (open.functor, Arguments::new(args));
             Ok(Some(Value::Comp(Box::new(alloc, Comp { functor, args })?)))
         }
     }
@@ -52,7 +52,8 @@ fn all_made<A: Allocator + Copy>(
     terms: &[Term<A>],
     binding: &Binding<'_, A>,
 ) -> Result<Option<Vec<Value<A>, A>>, AllocError>
-    ensures { IfOk result (λ made. option_map (λ vs. args_of (grounds vs.items)) made ≡ terms_under (bound_at binding.now) (terms_of (map argument terms.now))) }
+    ensures values { IfOk result (λ made. option_map (λ vs. args_of (grounds vs.items)) made ≡ terms_under (bound_at binding.now) (terms_of (map argument terms.now))) }
+    ensures count { IfOk result (λ made. IfSome made (λ vs. vec_len vs ≡ length terms.now)) }
 {
     let mut values = Vec::with_capacity(alloc, terms.len())?;
     for term in terms {

@@ -3,6 +3,7 @@ ghost use Rattle.std.specs.Prelude.{◌≡◌, ◌≤◌, length, map, true, IfO
 ghost use Rattle.std.specs.List.{list_any};
 ghost use Rattle.std.specs.Option.{option_map};
 ghost use Rattle.chr_value.specs.Atoms.{said};
+ghost use Rattle.chr_value.specs.Bounds.{most_variables};
 ghost use Rattle.chr_guard.specs.Settled.{Places, mark_of, mark_view, is_compound, IsFilled};
 
 use crate::binding::Binding;
@@ -50,6 +51,7 @@ pub struct Settled<A: Allocator> {
 impl<A: Allocator> Model for Settled<A> {
     ghost use Rattle.std.specs.Prelude.{ℕ, ◌≤◌, List, Option, length, map};
     ghost use Rattle.chr_value.specs.Atoms.{Value as PlainValue};
+    ghost use Rattle.chr_value.specs.Bounds.{most_variables};
     ghost use Rattle.chr_value.specs.Code.{value_codes};
     ghost use Rattle.chr_guard.specs.Settled.{mark_view};
 
@@ -59,7 +61,7 @@ impl<A: Allocator> Model for Settled<A> {
 
     ghost view = { λ s. map mark_view s.marks.items };
 
-    ghost invariant = { λ s. length s.marks.items ≤ 24 };
+    ghost invariant = { λ s. length s.marks.items ≤ most_variables };
 }
 
 impl<'v, A: Allocator + Copy> Binding<'v, A> {

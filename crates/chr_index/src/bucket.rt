@@ -1,7 +1,7 @@
 //! The labels of one key, rising.
 ghost use Rattle.std.specs.Prelude.{◌≡◌, ℕ, false, ◌+◌, ◌<◌, ◌≤◌, ◌++◌, ◌∷◌, ◌↔◌, [], IfOk, IfSome, OnOk, OnErr, IsTrue, length, take, drop, MatchOption, slice_get};
 ghost use Rattle.std.specs.List.{AllByRecursion};
-ghost use Rattle.chr_value.specs.Stores.{greatest_label};
+ghost use Rattle.chr_value.specs.Bounds.{greatest_label};
 ghost use Rattle.chr_index.specs.Buckets.{jump_of, jump_at, JumpsAreDead, AreAlike, drop_number, IsLeastBetween, live_labels, live_slots, SlotsRise, IsLiveOrNone, HasLabelAt};
 
 use std::alloc::{AllocError, Allocator};

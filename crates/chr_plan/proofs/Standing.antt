@@ -12,6 +12,6 @@ among-terms : (x : ℕ) (ts : List (Term ℕ)) → stands_among x (terms_of ts) 
 among-terms x [] = refl
 among-terms x (t ∷ ts) = ap (λ (b : Bool). stands_in x t || b) (among-terms x ts)
 
-pub stands-parts : {A : Type 0} (term : CodeTerm A) (o : Box (CodeOpen A) A) (ts : List (CodeTerm A)) → term ≡ terms.Open o → ts ≡ o.value.args.items → (x : ℕ)
+pub stands-parts : {A : Type 0} (term : CodeTerm A) (o : Box (CodeOpen A) A) (ts : List (CodeTerm A)) → term ≡ terms.Open o → ts ≡ o.value.args.list.items → (x : ℕ)
     → has_variable x (map argument ts) ≡ stands_in x (argument term)
 stands-parts term o ts is e x = sym (ap (stands_in x) (argument-parts term o ts is e) ∙ among-terms x (map argument ts))

@@ -1,6 +1,7 @@
 -- The plans of a program: one for each rule and head.
 use Rattle.std.specs.Prelude.{◌≡◌, ℕ, zero, suc, ◌*◌, ◌≤◌, List, [], ◌∷◌, ◌++◌, length, map, take, drop, Option, Some, None, slice_get}
 use Rattle.std.specs.List.{AllByRecursion}
+use Rattle.chr_value.specs.Bounds.{most_heads}
 use Rattle.chr_rule.specs.Rules.{Simpagation}
 use Rattle.chr_plan.specs.Orders.{heads_of, IsPlan}
 use Rattle.chr_plan.specs.declared.order.Step.{Step}
@@ -12,12 +13,12 @@ PlanList = List (List (List Step))
 -- first, as many as its count says, and the others are not used
 abbrev pub in_rows : List ℕ → List (List Step) → PlanList
 in_rows [] orders = []
-in_rows (n ∷ counts) orders = take n orders ∷ in_rows counts (drop 6 orders)
+in_rows (n ∷ counts) orders = take n orders ∷ in_rows counts (drop most_heads orders)
 
 -- there are six orders for each rule, and it has at most six plans
 pub record AreRows (counts : List ℕ) (many : ℕ) : Type 0 where
-  pub six : many ≡ 6 * length counts
-  pub few : AllByRecursion (λ n. n ≤ 6) counts
+  pub six : many ≡ most_heads * length counts
+  pub few : AllByRecursion (λ n. n ≤ most_heads) counts
 
 abbrev pub order_in : Option (List (List Step)) → ℕ → Option (List Step)
 order_in None h = None

@@ -1,5 +1,6 @@
 //! The order in which the heads of a rule are tried.
 ghost use Rattle.std.specs.Prelude.{◌≡◌, ℕ, ◌≤◌, ◌||◌, false, length, map, position, MatchOption, slice_index_or};
+ghost use Rattle.chr_value.specs.Bounds.{most_heads};
 ghost use Rattle.chr_rule.specs.Rules.{heads_of, head_at};
 ghost use Rattle.chr_rule.specs.Parts.{argument};
 ghost use Rattle.chr_plan.specs.Orders.{stands_in, has_variable, binds, is_bound, is_known, key_in, is_new, is_key, are_new, fresh_in, is_named, IsOpen, IsNext, IsPlan};
@@ -158,7 +159,7 @@ fn is_fresh<A: Allocator>(
 fn next_step<A: Allocator>(rule: &Rule<A>, before: &[Step], bound: &BoundVariables) -> Option<Step>
     requires { (x : ℕ) → slice_index_or bound.now x false ≡ is_bound (heads_of rule.now) before.now x }
     ensures step { MatchOption result ((j : ℕ) → IsOpen (heads_of rule.now) before.now j → ⊥) (IsNext (heads_of rule.now) before.now) }
-    ensures few { length (heads_of rule.now) ≤ 6 }
+    ensures few { length (heads_of rule.now) ≤ most_heads }
 {
     let mut first = None;
     for at in 0..rule.heads() {

@@ -2,6 +2,7 @@
 ghost use Rattle.std.specs.Prelude.{◌≡◌, ℕ, ◌<◌, ◌≤◌, length, map, Some, IsSome, IfOk, OnOk};
 ghost use Rattle.std.specs.Option.{option_map};
 ghost use Rattle.std.specs.List.{slice_get};
+ghost use Rattle.chr_value.specs.Bounds.{most_heads};
 ghost use Rattle.chr_rule.specs.Rules.{heads_of};
 ghost use Rattle.chr_plan.specs.Orders.{IsPlan};
 ghost use Rattle.chr_plan.specs.Plans.{plan_at, ArePlans, IsRowOf};
@@ -60,7 +61,7 @@ fn order_of<A: Allocator>(rule: &Rule<A>, head: u8) -> Order
 
 /// Puts the orders of a rule after those of others: its plans, and empty ones.
 fn add_rule<A: Allocator>(orders: &mut Vec<Order, A>, rule: &Rule<A>) -> Result<(), AllocError>
-    ensures { OnOk result (IsRowOf (λ order. order.items) rule.now 6 orders.old.items orders.new.items) }
+    ensures { OnOk result (IsRowOf (λ order. order.items) rule.now most_heads orders.old.items orders.new.items) }
 {
     for at in 0..MOST_HEADS {
         orders.push(order_of(rule, at as u8 + 1))?;

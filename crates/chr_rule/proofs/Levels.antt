@@ -1,5 +1,5 @@
 -- A term, level by level.
-use Rattle.std.proofs.Common.{◌≡◌, ◌↔◌, ◌<◌, ◌+◌, ◌-◌, ℕ, Bool, true, false, ◌&&◌, IsTrue, List, length, map, nat_le, Box, rules, sym, ap, ◌∙◌, arith, ◌||◌, [], ◌∷◌, Some, None, refl, ap₂, suc}
+use Rattle.std.proofs.Common.{◌≡◌, ◌↔◌, ◌<◌, ◌+◌, ◌-◌, ◌≤◌, ℕ, zero, get_or, subst, Bool, true, false, ◌&&◌, IsTrue, List, length, map, Box, rules, sym, ap, ◌∙◌, arith, ◌||◌, [], ◌∷◌, Some, None, refl, ap₂, suc}
 use Rattle.std.specs.List.{AllByRecursion, list_all, list_any}
 use Rattle.std.proofs.lemmas.Bool.Decides.{nat_tests}
 use Rattle.std.proofs.lemmas.List.{length-map}
@@ -8,7 +8,7 @@ use Rattle.chr_value.specs.declared.value.Value.{Value as CodeValue}
 use Rattle.chr_rule.specs.Rules.{Var, Given, Open, terms_of, Term}
 use Rattle.chr_rule.specs.Parts.{argument}
 use Rattle.chr_rule.specs.Scope.{known_after_term, known_after_args, argument_known, known_then, known_after_terms, arguments_known}
-use Rattle.chr_rule.specs.Terms.{IsCanonical, is_open, left_after_term, left_after_terms, has_variable, have_variable, terms_count, AreCanonical}
+use Rattle.chr_rule.specs.Terms.{IsCanonical, is_open, left_after_term, left_after_terms, has_variable, have_variable, terms_count, AreCanonical, term_size, terms_size}
 use Rattle.chr_rule.specs.declared.term.Term.{Term as CodeTerm, the_lemmas}
 use Rattle.chr_rule.specs.declared.term.Open.{Open as CodeOpen}
 use Rattle.chr_rule.specs.declared.term.Term as terms
@@ -51,20 +51,29 @@ pub variables_where_open : (ts : List (Term ℕ)) → AllByRecursion IsCanonical
 variables_where_open [] h = refl
 variables_where_open (t ∷ ts) h = ap₂ (λ (a b : Bool). a || b) (variable_where_open t h.0) (variables_where_open ts h.1)
 
+-- none of several terms is larger than all together
+size-there : {X : Type 0} (f : X → Term ℕ) (xs : List X) (i : ℕ) (d : X) → i < length xs → term_size (f (get_or xs i d)) ≤ terms_size (terms_of (map f xs))
+size-there f [] i d lt = absurd (omega arith)
+size-there f (x ∷ xs) zero d lt = omega arith
+size-there f (x ∷ xs) (suc i) d lt = omega (arith, size-there f xs i d (omega arith))
+
+pub term-size-at : {X : Type 0} (f : X → Term ℕ) (xs : List X) (i : ℕ) (x : X) → i < length xs → x ≡ get_or xs i x → term_size (f x) ≤ terms_size (terms_of (map f xs))
+term-size-at f xs i x lt e = subst (λ y. term_size (f y) ≤ terms_size (terms_of (map f xs))) (sym e) (size-there f xs i x lt)
+
 pub argument-Var : (A : Type 0) (x : ℕ) → argument {A = A} (terms.Var x) ≡ Var x
 argument-Var A x = search (rules, the_lemmas)
 
 pub argument-Given : {A : Type 0} (v : CodeValue A) → argument (terms.Given v) ≡ Given (ground v)
 argument-Given v = search (rules, the_lemmas)
 
-argument-Open : {A : Type 0} (o : Box (CodeOpen A) A) → argument (terms.Open o) ≡ Open o.value.functor.number (terms_of (map argument o.value.args.items))
+argument-Open : {A : Type 0} (o : Box (CodeOpen A) A) → argument (terms.Open o) ≡ Open o.value.functor.number (terms_of (map argument o.value.args.list.items))
 argument-Open o = search (rules, the_lemmas)
 
 -- what an open term says, by its functor and its arguments
-pub argument-parts : {A : Type 0} (term : CodeTerm A) (o : Box (CodeOpen A) A) (ts : List (CodeTerm A)) → term ≡ terms.Open o → ts ≡ o.value.args.items → argument term ≡ Open o.value.functor.number (terms_of (map argument ts))
+pub argument-parts : {A : Type 0} (term : CodeTerm A) (o : Box (CodeOpen A) A) (ts : List (CodeTerm A)) → term ≡ terms.Open o → ts ≡ o.value.args.list.items → argument term ≡ Open o.value.functor.number (terms_of (map argument ts))
 argument-parts term o ts is e = ap argument is ∙ argument-Open o ∙ ap (λ us. Open o.value.functor.number (terms_of (map argument us))) (sym e)
 
-module _ {A : Type 0} (self : CodeTerm A) (o : Box (CodeOpen A) A) (ts : List (CodeTerm A)) (is : self ≡ terms.Open o) (are : ts ≡ o.value.args.items) where
+module _ {A : Type 0} (self : CodeTerm A) (o : Box (CodeOpen A) A) (ts : List (CodeTerm A)) (is : self ≡ terms.Open o) (are : ts ≡ o.value.args.list.items) where
   pub known-parts : (n : ℕ) → list_all (argument_known n) (map argument ts) ≡ argument_known n (argument self)
   known-parts n = sym (known-terms n (map argument ts)) ∙ sym (ap (argument_known n) (argument-parts self o ts is are))
 
@@ -76,17 +85,17 @@ module _ {A : Type 0} (self : CodeTerm A) (o : Box (CodeOpen A) A) (ts : List (C
   left-parts d room rest h e = rw (argument-parts self o ts is are) (grind (arith, nat_tests))
 
   -- what is told of the arguments is told of the term
-  pub canonical-told : (opens told : Bool) → opens ≡ (nat_le (length ts) 8 && list_any is_open (map argument ts)) → opens ≡ true
+  pub canonical-told : (opens told : Bool) → opens ≡ list_any is_open (map argument ts) → opens ≡ true
       → IsTrue told ↔ AllByRecursion IsCanonical (map argument ts) → IsTrue told ↔ IsCanonical (argument self)
   canonical-told opens told is-open so means =
-      rw (argument-parts self o ts is are) (grind (arith, variables_where_open (map argument ts), canonical-terms (map argument ts), length-map ts argument, count-terms (map argument ts), nat_tests))
+      rw (argument-parts self o ts is are) (grind (arith, variables_where_open (map argument ts), canonical-terms (map argument ts), length-map ts argument, count-terms (map argument ts), ap length are, o.value.args.few))
 
-  pub canonical-not : (opens : Bool) → opens ≡ (nat_le (length ts) 8 && list_any is_open (map argument ts)) → opens ≡ false → IsTrue opens ↔ IsCanonical (argument self)
+  pub canonical-not : (opens : Bool) → opens ≡ list_any is_open (map argument ts) → opens ≡ false → IsTrue opens ↔ IsCanonical (argument self)
   canonical-not opens is-open so =
-      rw (argument-parts self o ts is are) (grind (arith, variables_where_open (map argument ts), canonical-terms (map argument ts), length-map ts argument, count-terms (map argument ts), nat_tests))
+      rw (argument-parts self o ts is are) (grind (arith, variables_where_open (map argument ts), canonical-terms (map argument ts), length-map ts argument, count-terms (map argument ts), ap length are, o.value.args.few))
 
 pub same-told : {A : Type 0} (self other : CodeTerm A) (a b : Box (CodeOpen A) A) (xs ys : List (CodeTerm A)) (told : Bool) → self ≡ terms.Open a → other ≡ terms.Open b
-    → a.value.functor.number ≡ b.value.functor.number → xs ≡ a.value.args.items → ys ≡ b.value.args.items → IsTrue told ↔ (map argument xs ≡ map argument ys) → IsTrue told ↔ (argument self ≡ argument other)
+    → a.value.functor.number ≡ b.value.functor.number → xs ≡ a.value.args.list.items → ys ≡ b.value.args.list.items → IsTrue told ↔ (map argument xs ≡ map argument ys) → IsTrue told ↔ (argument self ≡ argument other)
 same-told self other a b xs ys told is-a is-b functors xs-are ys-are means =
     let l = argument-parts self a xs is-a xs-are in
     let r = argument-parts other b ys is-b ys-are in

@@ -1,6 +1,7 @@
 -- The heads of rules by their names.
 use Rattle.std.specs.Prelude.{◌≡◌, ℕ, ◌+◌, ◌*◌, ◌<◌, ◌≤◌, ◌⊎◌, ◌↔◌, List, [], Some, slice_index_or, slice_index}
 use Rattle.std.specs.List.{AllByRecursion, AllPairs, Contains}
+use Rattle.chr_value.specs.Bounds.{most_heads}
 use Rattle.chr_rule.specs.declared.occurrences.Occurrence.{Occurrence}
 use Rattle.chr_rule.specs.Rules.{RuleAtom, Simpagation, head_at}
 use Rattle.chr_rule.specs.Occurrences.{HasPredAt, IsOccurrence, pred_of}
@@ -61,11 +62,12 @@ pub record KeepsRows (old new : Index) : Type 0 where
 abbrev pub HasRoomBelow : ℕ → Index → Simpagation ℕ → Type 0
 HasRoomBelow bound index rule =
     (h : ℕ) (head : RuleAtom ℕ) → h < bound → head_at rule h ≡ Some head →
-    6 ≤ room_at index.rooms head.name
+    most_heads ≤ room_at index.rooms head.name
 
 abbrev pub HasRoomFor : Index → Simpagation ℕ → Type 0
 HasRoomFor index rule =
-    (h : ℕ) (head : RuleAtom ℕ) → head_at rule h ≡ Some head → 6 ≤ room_at index.rooms head.name
+    (h : ℕ) (head : RuleAtom ℕ) → head_at rule h ≡ Some head →
+    most_heads ≤ room_at index.rooms head.name
 
 -- the new rows have what the old ones have, and one more in the row of a name
 abbrev pub HasPushed : List (List Occurrence) → ℕ → Occurrence → List (List Occurrence) → Type 0

@@ -19,7 +19,7 @@ argument_step (Term-F.Given v) = Given (ground v)
 argument_step (Term-F.Open o) = o.value
 
 abbrev pub open_step : {A : Type 0} → Open-F A (Term ℕ) (Term ℕ) → Term ℕ
-open_step o = Open o.functor.number (terms_of o.args.items)
+open_step o = Open o.functor.number (terms_of o.args.list.items)
 
 abbrev pub argument : {A : Type 0} → CodeTerm A → Term ℕ
 argument {A} = fold-Term A (Term ℕ) (Term ℕ) argument_step open_step

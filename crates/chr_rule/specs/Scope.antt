@@ -1,6 +1,7 @@
 -- Which rules are in scope: each variable has a value where it is used, and the limits are kept.
 use Rattle.std.specs.Prelude.{◌≡◌, ℕ, suc, ◌+◌, Bool, true, ◌&&◌, ◌==◌, ◌<◌, ◌≤◌, nat_lt, if◌then◌else◌, List, [], ◌∷◌, ◌++◌, length, Option, Some, None}
 use Rattle.std.specs.List.{list_all}
+use Rattle.chr_value.specs.Bounds.{most_comparisons, most_heads, most_items, most_variables}
 use Rattle.chr_rule.specs.Rules.{Term, Var, Given, Open, Terms, End, And, RuleAtom, Expression, Number, Variable, Operation, Comparison, Compared, Same, Differ, BodyItem, Is, Add, Simpagation}
 use Rattle.chr_rule.specs.Terms.{HasTerms}
 
@@ -73,11 +74,11 @@ variable_count heads guard body =
 -- Within the limits: at most 24 variables, 6 heads of which one is removed, 16 comparisons and 16
 -- members of the body. How deep an expression nests is a limit of the text alone.
 pub record IsWithinLimits {N : Type 0} (rule : Simpagation N) : Type 0 where
-  pub variables : rule.variables ≤ 24
+  pub variables : rule.variables ≤ most_variables
   pub removed : 0 < length rule.removed
-  pub heads : length rule.kept + length rule.removed ≤ 6
-  pub guard : length rule.guard ≤ 16
-  pub body : length rule.body ≤ 16
+  pub heads : length rule.kept + length rule.removed ≤ most_heads
+  pub guard : length rule.guard ≤ most_comparisons
+  pub body : length rule.body ≤ most_items
 
 -- a rule that a program may have
 pub record IsRule {N : Type 0} (rule : Simpagation N) : Type 0 where

@@ -2,7 +2,8 @@
 use Rattle.std.specs.Prelude.{◌≡◌, ℕ, suc, ◌+◌, ◌≤◌, max, Bool, true, false, ◌||◌, List, Option}
 use Rattle.std.specs.List.{AllByRecursion}
 use Rattle.chr_value.specs.Atoms.{Int, Sym, Comp}
-use Rattle.chr_value.specs.Limits.{depth, size, most_depth, most_size, left_of}
+use Rattle.chr_value.specs.Bounds.{most_arguments, most_depth, most_size}
+use Rattle.chr_value.specs.Limits.{depth, size, left_of}
 use Rattle.chr_rule.specs.Rules.{Term, Var, Given, Open, Terms, End, And, terms_of, RuleAtom, Comparison, Compared, Same, Differ, BodyItem, Is, Add, Simpagation}
 
 -- a variable stands in the term
@@ -27,7 +28,8 @@ abbrev mutual
   pub IsCanonical : {N : Type 0} → Term N → Type 0
   IsCanonical (Var x) = Unit {0}
   IsCanonical (Given v) = Unit {0}
-  IsCanonical (Open s ts) = (terms_count ts ≤ 8) × (have_variable ts ≡ true) × AreCanonical ts
+  IsCanonical (Open s ts) =
+      (terms_count ts ≤ most_arguments) × (have_variable ts ≡ true) × AreCanonical ts
 
   pub AreCanonical : {N : Type 0} → Terms N → Type 0
   AreCanonical End = Unit {0}

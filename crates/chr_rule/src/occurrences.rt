@@ -1,6 +1,7 @@
 //! Where rules have heads of a predicate.
 ghost use Rattle.std.specs.Prelude.{◌≡◌, ℕ, ◌+◌, ◌*◌, ◌<◌, ◌≤◌, List, [], length, map, OnOk, MatchOption};
 ghost use Rattle.std.specs.List.{Contains, slice_index_or};
+ghost use Rattle.chr_value.specs.Bounds.{most_heads};
 ghost use Rattle.chr_rule.specs.declared.occurrences.Occurrence.{Occurrence as OccurrenceView};
 ghost use Rattle.chr_rule.specs.Rules.{Simpagation};
 ghost use Rattle.chr_rule.specs.Occurrences.{NoneFrom, IsNextOccurrence, AreHeadsFrom};
@@ -102,7 +103,7 @@ impl<A: Allocator + Copy> Occurrences<A> {
     /// Makes room for the heads of a rule in the row of a name. An `Err` is E01.
     fn reserve_row(&mut self, name: Name) -> Result<(), AllocError>
         ensures keeps { KeepsRows self.old self.new }
-        ensures room { OnOk result (6 ≤ room_at self.new.rooms name.number) }
+        ensures room { OnOk result (most_heads ≤ room_at self.new.rooms name.number) }
     {
         let place = name.number as usize;
         let alloc = *self.rows.allocator();

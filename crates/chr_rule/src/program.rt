@@ -3,6 +3,7 @@ ghost use Rattle.std.specs.Prelude.{◌≡◌, ◌<◌, ◌≤◌, ◌++◌, ◌
 ghost use Rattle.std.specs.Option.{option_map};
 ghost use Rattle.std.specs.Arc.{arc_value};
 ghost use Rattle.std.specs.List.{AllByRecursion};
+ghost use Rattle.chr_value.specs.Bounds.{most_rules};
 ghost use Rattle.chr_rule.specs.Rules.{rule_at};
 ghost use Rattle.chr_rule.specs.Scope.{IsRule};
 ghost use Rattle.chr_rule.specs.Occurrences.{AreHeadsFrom};
@@ -38,6 +39,7 @@ impl<A: Allocator> Model for Program<A> {
     ghost use Rattle.std.specs.Prelude.{ℕ, List, map, length, ◌≤◌};
     ghost use Rattle.std.specs.Arc.{arc_value};
     ghost use Rattle.std.specs.List.{AllByRecursion};
+    ghost use Rattle.chr_value.specs.Bounds.{most_rules};
     ghost use Rattle.chr_rule.specs.Rules.{Simpagation};
     ghost use Rattle.chr_rule.specs.Scope.{IsRule};
     ghost use Rattle.chr_rule.specs.Index.{IsIndexOf};
@@ -49,7 +51,7 @@ impl<A: Allocator> Model for Program<A> {
 
     ghost view = { λ p. map arc_value p.rules.items };
 
-    ghost invariant = { λ p. (length p.rules.items ≤ 256) × AllByRecursion IsRule (map arc_value p.rules.items) × IsIndexOf (map arc_value p.rules.items) p.occurrences.rows };
+    ghost invariant = { λ p. (length p.rules.items ≤ most_rules) × AllByRecursion IsRule (map arc_value p.rules.items) × IsIndexOf (map arc_value p.rules.items) p.occurrences.rows };
 }
 
 impl<A: Allocator + Copy> Program<A> {
@@ -66,7 +68,7 @@ impl<A: Allocator + Copy> Program<A> {
     /// How many rules there are, at most [`MOST_RULES`].
     pub fn len(&self) -> usize
         ensures count { result ≡ length self.now }
-        ensures few { result ≤ 256 }
+        ensures few { result ≤ most_rules }
     {
         self.rules.len()
     }
@@ -74,7 +76,7 @@ impl<A: Allocator + Copy> Program<A> {
     /// The rules, in text order.
     pub fn rules(&self) -> &[Arc<Rule<A>, A>]
         ensures rules { map arc_value result.now ≡ self.now }
-        ensures few { length result.now ≤ 256 }
+        ensures few { length result.now ≤ most_rules }
         ensures valid { AllByRecursion IsRule self.now }
     {
         &self.rules
@@ -112,7 +114,7 @@ impl<A: Allocator + Copy> Program<A> {
 
     /// Adds a rule after the others.
     pub fn push(&mut self, rule: Arc<Rule<A>, A>) -> Result<(), AllocError>
-        requires { length self.old < 256 }
+        requires { length self.old < most_rules }
         ensures ok { OnOk result (self.new ≡ self.old ++ arc_value rule ∷ []) }
         ensures err { OnErr result (self.new ≡ self.old) }
     {

@@ -1,6 +1,7 @@
 //! Rules.
 ghost use Rattle.std.specs.Prelude.{◌≡◌, ◌+◌, ◌<◌, ◌≤◌, ℕ, length, map, Some, IsSome, IfSome, IsTrue, ◌↔◌};
 ghost use Rattle.std.specs.Option.{option_map};
+ghost use Rattle.chr_value.specs.Bounds.{most_comparisons, most_heads, most_items};
 ghost use Rattle.chr_rule.specs.Parts.{shape, comparison, member, rule_of};
 ghost use Rattle.chr_rule.specs.Rules.{head_at, of_parts};
 ghost use Rattle.chr_rule.specs.Scope.{IsRule};
@@ -72,7 +73,7 @@ impl<A: Allocator> Model for Rule<A> {
 
 /// Whether a rule may have so many heads, comparisons and members of the body.
 fn are_within_limits(kept: usize, removed: usize, guard: usize, body: usize) -> bool
-    ensures { IsTrue result ↔ ((0 < removed) × (kept + removed ≤ 6) × (guard ≤ 16) × (body ≤ 16)) }
+    ensures { IsTrue result ↔ ((0 < removed) × (kept + removed ≤ most_heads) × (guard ≤ most_comparisons) × (body ≤ most_items)) }
 {
     if removed == 0 || kept > MOST_HEADS || removed > MOST_HEADS - kept {
         return false;
@@ -220,7 +221,7 @@ impl<A: Allocator> Rule<A> {
     /// How many heads there are, from 1 to [`MOST_HEADS`].
     pub fn heads(&self) -> usize
         ensures count { result ≡ length self.now.kept + length self.now.removed }
-        ensures few { result ≤ 6 }
+        ensures few { result ≤ most_heads }
         ensures valid { IsRule self.now }
     {
         self.heads.len()

@@ -1,5 +1,6 @@
 //! Constraints in a rule, with terms for arguments.
 ghost use Rattle.std.specs.Prelude.{◌≡◌, ◌↔◌, ◌≤◌, IsTrue, vec_len};
+ghost use Rattle.chr_value.specs.Bounds.{most_arguments};
 
 use crate::parts::{Part, are_same, are_valid};
 use crate::term::Term;
@@ -11,7 +12,7 @@ use std::alloc::Allocator;
 pub struct RuleAtom<A: Allocator> {
     pub name: Name,
     pub terms: Vec<Term<A>, A>,
-    pub ghost few: { vec_len terms ≤ 8 },
+    pub ghost few: { vec_len terms ≤ most_arguments },
 }
 
 impl<A: Allocator> RuleAtom<A> {

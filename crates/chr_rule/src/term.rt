@@ -1,13 +1,14 @@
 //! Terms of a rule.
 ghost use Rattle.std.specs.Prelude.{◌≡◌, ◌↔◌, ◌&&◌, IsTrue, ℕ, length, map, nat_le};
 ghost use Rattle.std.specs.List.{AllByRecursion, list_all, list_any};
+ghost use Rattle.chr_value.specs.Bounds.{most_arguments};
 ghost use Rattle.chr_rule.specs.Parts.{argument};
 ghost use Rattle.chr_rule.specs.Rules as rules;
 ghost use Rattle.chr_rule.specs.Scope.{argument_known};
 ghost use Rattle.chr_rule.specs.Terms.{IsCanonical, IsTerm, is_open, left_after_term, left_after_terms};
 
 use crate::parts::Part;
-use chr_value::{MOST_ARGS, MOST_DEPTH, MOST_SIZE, Name, Value};
+use chr_value::{Arguments, MOST_DEPTH, MOST_SIZE, Name, Value};
 use std::alloc::Allocator;
 
 /// A variable by its number in the rule, a value as it is written, or a functor with arguments in which a variable stands.
@@ -19,12 +20,12 @@ pub enum Term<A: Allocator> {
     Open(Box<Open<A>, A>),
 }
 
-/// A functor with its arguments.
+/// A functor with its one to eight arguments.
 #[cycle(term)]
 #[derive(Drop)]
 pub struct Open<A: Allocator> {
     pub functor: Name,
-    pub args: Vec<Term<A>, A>,
+    pub args: Arguments<Term<A>, A>,
 }
 
 impl<A: Allocator> Default for Term<A> {
@@ -73,8 +74,7 @@ impl<A: Allocator> Term<A> {
         }
     }
 
-    /// Whether a term without variables is a value wherever it stands in the term, and no functor has more than
-    /// [`MOST_ARGS`] arguments.
+    /// Returns whether a term without variables is a value wherever it stands in the term.
     #[cycle(canonical)]
     fn is_canonical(&self) -> bool
         ensures { IsTrue result ↔ IsCanonical (argument self.now) }
@@ -155,13 +155,10 @@ pub(crate) fn are_known<A: Allocator>(known: usize, terms: &[Term<A>]) -> bool
     true
 }
 
-/// Whether terms are at most [`MOST_ARGS`] and not all of them are values.
+/// Returns whether not all terms are values.
 fn are_open<A: Allocator>(terms: &[Term<A>]) -> bool
-    ensures { result ≡ (nat_le (length terms.now) 8 && list_any is_open (map argument terms.now)) }
+    ensures { result ≡ list_any is_open (map argument terms.now) }
 {
-    if terms.len() > MOST_ARGS {
-        return false;
-    }
     for term in terms {
         if term.is_open() {
             return true;

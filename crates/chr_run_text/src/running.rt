@@ -1,6 +1,6 @@
 //! From the bytes of texts to a run, and to the bytes shown.
 ghost use Rattle.std.specs.Prelude.{◌≡◌, ◌≤◌, ℕ, List, map, IfOk, IfErr};
-ghost use Rattle.chr_value.specs.Stores.{greatest_label};
+ghost use Rattle.chr_value.specs.Bounds.{greatest_label};
 ghost use Rattle.chr_calls.specs.Tickets.{AreQuiet};
 ghost use Rattle.chr_book.specs.Texts.{IsOpenText};
 ghost use Rattle.chr_solo.specs.declared.solo.End.TheVariants.{Quiet};

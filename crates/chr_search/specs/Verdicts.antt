@@ -2,7 +2,7 @@
 use Rattle.std.specs.Prelude.{◌≡◌, ℕ, zero, suc, ◌<◌, ◌≤◌, true, ◌==◌, if◌then◌else◌, List, [], ◌∷◌, map, length, take, Option, Some}
 use Rattle.std.specs.List.{AllByRecursion}
 use Rattle.chr_value.specs.Atoms.{Value, Atom}
-use Rattle.chr_value.specs.Stores.{greatest_label}
+use Rattle.chr_value.specs.Bounds.{greatest_label}
 use Rattle.chr_rule.specs.Rules.{Simpagation, rule_at}
 use Rattle.chr_rule.specs.Scope.{IsRule}
 use Rattle.chr_guard.specs.Values.{Valuation, Holds}

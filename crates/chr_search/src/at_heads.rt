@@ -1,5 +1,6 @@
 //! Labels at the heads of a rule.
 ghost use Rattle.std.specs.Prelude.{◌≡◌, ◌+◌, ◌≤◌, length};
+ghost use Rattle.chr_value.specs.Bounds.{most_heads};
 ghost use Rattle.chr_search.specs.Joined.{join_of};
 ghost use Rattle.chr_search.specs.Passing.{IsTrialIn};
 ghost use Rattle.chr_search.specs.PlanByPlan.{labels_at_heads};
@@ -12,7 +13,7 @@ use std::alloc::Allocator;
 
 /// Makes labels as many as a count. Which they are then is left open.
 pub(crate) fn resize(labels: &mut Labels, count: usize)
-    requires { count ≤ 6 }
+    requires { count ≤ most_heads }
     ensures { length labels.new.items ≡ count }
 {
     labels.truncate(count);

@@ -1,5 +1,6 @@
 //! Positions in the order of trials.
 ghost use Rattle.std.specs.Prelude.{◌≡◌, ◌≢◌, ◌↔◌, ◌+◌, ◌∷◌, ◌++◌, ◌<◌, ◌≤◌, [], ℕ, length, map, take, MatchOption, IsTrue};
+ghost use Rattle.chr_value.specs.Bounds.{most_heads};
 ghost use Rattle.chr_search.specs.Positions.{beginning, just_after, past, front};
 ghost use Rattle.chr_search.specs.Verdicts.{Trial as TrialView, labels as labels_of, position, IsFormed, IsPart};
 
@@ -40,7 +41,7 @@ pub(crate) fn set_alone(labels: &mut Labels, label: Label)
 /// is mostly left of longer trials, and costs less than to truncate.
 #[inline(always)]
 fn shorten(labels: &mut Labels, depth: usize)
-    requires { depth < 6 }
+    requires { depth < most_heads }
     ensures { take depth labels.new.items ≡ take depth labels.old.items }
 {
     if labels.len() == depth + 2 {
@@ -50,7 +51,7 @@ fn shorten(labels: &mut Labels, depth: usize)
 
 /// Keeps the first labels, as many as `depth`, and puts one after them.
 pub(crate) fn put_at(labels: &mut Labels, depth: usize, label: Label)
-    requires { depth < 6 }
+    requires { depth < most_heads }
     ensures { labels.new.items ≡ take depth labels.old.items ++ label ∷ [] }
 {
     shorten(labels, depth);
@@ -65,7 +66,7 @@ pub(crate) fn put_at(labels: &mut Labels, depth: usize, label: Label)
 /// Sets the label after the first ones, which are as many as `depth` and stay.
 pub(crate) fn set_at(labels: &mut Labels, depth: usize, label: Label)
     requires within { depth ≤ length labels.old.items }
-    requires room { depth < 6 }
+    requires room { depth < most_heads }
     ensures { take (depth + 1) labels.new.items ≡ take depth labels.old.items ++ label ∷ [] }
 {
     if depth < labels.len() {
@@ -219,8 +220,8 @@ impl Position {
     /// Becomes a position from which the trials after a trial are looked for: the first one after it. Where it has as many
     /// labels as a trial can have, it begins no other, and the position is past it.
     pub(crate) fn become_after<A: Allocator + Copy>(&mut self, trial: &Trial<A>)
-        ensures most { length trial.now.placed ≡ 6 → self.new ≡ past (position trial.now) }
-        ensures fewer { length trial.now.placed ≢ 6 → self.new ≡ just_after (position trial.now) }
+        ensures most { length trial.now.placed ≡ most_heads → self.new ≡ past (position trial.now) }
+        ensures fewer { length trial.now.placed ≢ most_heads → self.new ≡ just_after (position trial.now) }
     {
         if trial.placed().len() == 6 {
             self.become_past(trial);

@@ -1,6 +1,7 @@
 //! Searches.
 ghost use Rattle.std.specs.Prelude.{◌≡◌, ◌↔◌, ℕ, ◌+◌, ◌-◌, ◌≤◌, true, List, ◌∷◌, ◌++◌, [], length, Some, MatchBool, MatchOption, IfOk, IfSome, IsTrue};
-ghost use Rattle.chr_value.specs.Stores.{atom_at, greatest_label};
+ghost use Rattle.chr_value.specs.Bounds.{greatest_label};
+ghost use Rattle.chr_value.specs.Stores.{atom_at};
 ghost use Rattle.chr_model.specs.Stores.{Store as Entries};
 ghost use Rattle.chr_plan.specs.Plans.{ArePlans};
 ghost use Rattle.chr_store.specs.Labels.{entered};

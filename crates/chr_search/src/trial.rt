@@ -2,6 +2,7 @@
 ghost use Rattle.std.specs.Prelude.{◌≡◌, ◌↔◌, ◌≤◌, ◌∷◌, ◌++◌, [], ℕ, length, map, slice_get, Some, IfOk, OnOk, IsTrue};
 ghost use Rattle.std.specs.Arc.{arc_value};
 ghost use Rattle.chr_value.specs.Atoms.{Atom as AtomView};
+ghost use Rattle.chr_value.specs.Bounds.{most_heads};
 ghost use Rattle.chr_value.specs.Stores.{atom_at};
 ghost use Rattle.chr_plan.specs.Plans.{ArePlans};
 ghost use Rattle.chr_search.specs.Fronts.{lengthened, trial_alone};
@@ -153,7 +154,7 @@ fn label_at<A: Allocator>(placed: &[Placed<A>], head: usize) -> Label
 /// The labels at the next heads from one on, at most six.
 fn labels_from<A: Allocator>(placed: &[Placed<A>], first: usize, count: usize) -> Labels
     requires first { first ≤ 7 }
-    requires count { count ≤ 6 }
+    requires count { count ≤ most_heads }
     ensures { result.items ≡ labels_from (map placed_as placed.now) first count }
 {
     let mut labels = Labels::new();

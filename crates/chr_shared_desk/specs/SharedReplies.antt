@@ -1,7 +1,7 @@
 -- What a desk over a shared book replies, and its seat before and after. What the book was at that
 -- moment is not known but by the reply: others work on it.
 use Rattle.std.specs.Prelude.{◌≡◌, ◌+◌, ◌-◌, ◌≤◌, ℕ, List, [], true, false, map, length, drop, Option, Some, None, Result, Ok, Err}
-use Rattle.chr_value.specs.declared.label.TheConstants.{GREATEST_LABEL}
+use Rattle.chr_value.specs.Bounds.{greatest_label}
 use Rattle.chr_lex.specs.declared.fault.ReadError.{ReadError}
 use Rattle.chr_lex.specs.declared.fault.ReadError.TheVariants as errors
 use Rattle.chr_log.specs.Events.{event_by_texts}
@@ -29,7 +29,7 @@ WasRefused seat other = ⊥
 
 -- a book was opened by a text, whose rules are so many
 pub record HasRulesOf (text : List ℕ) (book : BookState) (count : ℕ) : Type 0 where
-  pub opens : IsOpenText text GREATEST_LABEL book
+  pub opens : IsOpenText text greatest_label book
   pub count_is : count ≡ length opens.read.rules
 
 -- There was a hold before which there was no book, and after which there was one of the rules of a

@@ -1,7 +1,7 @@
 //! Reading the next trials of a search.
 ghost use Rattle.std.specs.Prelude.{◌≡◌, ℕ, ◌<◌, ◌≤◌, ◌+◌, List, [], ◌∷◌, ◌++◌, length, map, IfOk, IsTrue, OnOk, MatchOption};
 ghost use Rattle.std.specs.Arc.{arc_value};
-ghost use Rattle.chr_value.specs.Stores.{greatest_label};
+ghost use Rattle.chr_value.specs.Bounds.{greatest_label, most_heads};
 ghost use Rattle.chr_plan.specs.Orders.{heads_of};
 ghost use Rattle.chr_plan.specs.Plans.{ArePlans};
 ghost use Rattle.chr_search.specs.Fronts.{MayEnd, IsFront, IsPlacedAfter, ComeAfter};
@@ -89,7 +89,7 @@ fn next_heads<A: Allocator + Copy>(
     after: (u16, u8),
     most: usize,
 ) -> Result<Vec<OneHead, A>, AllocError>
-    requires { after.1 ≤ 6 }
+    requires { after.1 ≤ most_heads }
     ensures few { IfOk result (λ heads. length heads.items ≤ most) }
     ensures next { IfOk result (λ heads. AreNextHeads program.now pred after.0 after.1 (map (head_in program.now) heads.items)) }
 {

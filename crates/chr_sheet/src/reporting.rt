@@ -1,7 +1,7 @@
 //! Reporting the judgements of a sheet.
 ghost use Rattle.std.specs.Prelude.{◌≡◌, ◌≢◌, ◌≤◌, ◌↔◌, IsTrue, Some, ◌∷◌, ◌++◌, ⊤, [], ℕ, List, length, map, MatchOption};
 ghost use Rattle.std.specs.List.{AllByRecursion};
-ghost use Rattle.chr_value.specs.Stores.{greatest_label};
+ghost use Rattle.chr_value.specs.Bounds.{greatest_label};
 ghost use Rattle.chr_search.specs.declared.judged.Verdict.TheVariants as verdicts;
 ghost use Rattle.chr_search.specs.Judged.{IsVerdict};
 ghost use Rattle.chr_plan.specs.Plans.{ArePlans};

@@ -2,23 +2,16 @@
 ghost use Rattle.std.specs.Prelude.{◌≡◌, ◌≤◌};
 
 use chr_command_line::Masked;
-use chr_commands::{Detail, Status, report_failure, report_no_memory};
+use chr_commands::{Detail, Node, Status, report_failure, report_no_memory};
 use chr_serve::{Ready, ServerFault, serve_on};
 use std::fmt::{Display, Formatter};
 use std::net::Net;
-use std::os::unix::fs::{FileTypeExt, MetadataExt};
+use std::os::unix::fs::FileTypeExt;
 use std::os::unix::net::UnixListener;
 use std::rt::{Clock, Files};
 use std::sync::Wait;
 use std::thread::Threads;
 use std::{fmt, fs, io};
-
-/// A file by the numbers that the system gives it, whatever its path is.
-#[derive(Clone, Copy, Debug, PartialEq, Eq)]
-struct Node {
-    device: u64,
-    number: u64,
-}
 
 /// Returns the socket at a path. None where no socket is there, or the system doesn't say.
 fn socket_at(rt: &impl Files, path: &str) -> Option<Node> {
@@ -26,10 +19,7 @@ fn socket_at(rt: &impl Files, path: &str) -> Option<Node> {
     if !found.file_type().is_socket() {
         return None;
     }
-    Some(Node {
-        device: found.dev(),
-        number: found.ino(),
-    })
+    Some(Node::of(&found))
 }
 
 /// Removes the file of a socket, unless another file has its path by now.

@@ -1,6 +1,6 @@
 //! The desk, and the replies to each command.
 ghost use Rattle.std.specs.Prelude.{◌≡◌, ◌≤◌, ℕ, None, Some, vec_len};
-ghost use Rattle.chr_value.specs.Stores.{greatest_label};
+ghost use Rattle.chr_value.specs.Bounds.{greatest_label};
 ghost use Rattle.chr_calls.specs.Books.{BookState};
 ghost use Rattle.chr_session.specs.Commands.{reply_of, command_of};
 ghost use Rattle.chr_solo.specs.SoloSteps.{LoadsText, PostReplies, WaitReplies, StoreReplies, LogReplies, BookReplies, SoloReplies};
@@ -111,7 +111,7 @@ fn ask_book<A: Allocator + Copy>(alloc: A, book: &mut Book<A>, command: Command<
 
 impl<A: Allocator> Model for SoloDesk<A> {
     ghost use Rattle.std.specs.Prelude.{◌≤◌, ℕ, Option};
-    ghost use Rattle.chr_value.specs.Stores.{greatest_label};
+    ghost use Rattle.chr_value.specs.Bounds.{greatest_label};
     ghost use Rattle.chr_rule.specs.Codes.{rule_codes};
     ghost use Rattle.chr_calls.specs.Books.{BookState};
 

@@ -3,7 +3,8 @@ use Rattle.std.specs.Prelude.{◌≡◌, ◌≢◌, ◌⊎◌, ⊤, ℕ, ◌+◌
 use Rattle.std.specs.Borrow.{Bor}
 use Rattle.std.specs.List.{AllByRecursion}
 use Rattle.chr_value.specs.Atoms.{Atom}
-use Rattle.chr_value.specs.Stores.{Store, greatest_label}
+use Rattle.chr_value.specs.Bounds.{greatest_label}
+use Rattle.chr_value.specs.Stores.{Store}
 
 -- the atoms, slot by slot
 abbrev pub Held : Type 0

@@ -3,7 +3,8 @@ ghost use Rattle.std.specs.Prelude.{◌≡◌, ◌≢◌, ◌+◌, ◌*◌, ◌<
 ghost use Rattle.std.specs.Option.{option_copied};
 ghost use Rattle.std.specs.Iterator.{item_count};
 ghost use Rattle.std.specs.Map.Iter.{TakesFirst};
-ghost use Rattle.chr_value.specs.Stores.{atom_at, drop_label, greatest_label};
+ghost use Rattle.chr_value.specs.Bounds.{greatest_label};
+ghost use Rattle.chr_value.specs.Stores.{atom_at, drop_label};
 ghost use Rattle.chr_store.specs.Table.{Held, IsSlotOf, no_slot, atom_in, held_in, entries_from, shown};
 ghost use Rattle.chr_store.specs.Blocks.{AreCounts, AreEmptyAtNone};
 

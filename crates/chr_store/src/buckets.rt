@@ -1,7 +1,7 @@
 //! The labels of each key.
 ghost use Rattle.std.specs.Prelude.{◌≡◌, ℕ, ◌+◌, ◌<◌, ◌≤◌, ◌&&◌, ◌++◌, ◌∷◌, [], true, IfSome, Some, OnOk, OnErr, length, if◌then◌else◌, nat_eq};
 ghost use Rattle.std.specs.List.{AllByRecursion};
-ghost use Rattle.chr_value.specs.Stores.{greatest_label};
+ghost use Rattle.chr_value.specs.Bounds.{greatest_label};
 ghost use Rattle.chr_index.specs.Buckets.{drop_number};
 ghost use Rattle.chr_store.specs.KeyParts.{Key, KeyValue};
 ghost use Rattle.chr_store.specs.Index.{chosen, is_pred, number_of, own_key, pred_of, same_key, same_value};

@@ -65,7 +65,7 @@ fn with_comp<A: Allocator>(digest: u64, comp: &Comp<A>) -> u64
 {
     let functor = mixed(digest, u64::from(comp.functor.number));
     let mut all = mixed(functor, comp.args.len() as u64);
-    for value in &comp.args {
+    for value in comp.args.iter() {
         all = with_value(all, value);
     }
     all

@@ -1,7 +1,7 @@
 //! The labels of one key, where one alone takes no memory.
 ghost use Rattle.std.specs.Prelude.{◌≡◌, ◌<◌, ◌≤◌, ◌++◌, ◌∷◌, [], OnOk, OnErr};
 ghost use Rattle.std.specs.List.{AllByRecursion};
-ghost use Rattle.chr_value.specs.Stores.{greatest_label};
+ghost use Rattle.chr_value.specs.Bounds.{greatest_label};
 ghost use Rattle.chr_index.specs.Buckets.{drop_number};
 
 use chr_index::{Bucket, Matches};

@@ -1,7 +1,7 @@
 //! The rows that predicates have in tables, which are found without a hash.
 ghost use Rattle.std.specs.Prelude.{◌≡◌, ℕ, ◌<◌, ◌≤◌, ◌++◌, ◌∷◌, [], IfSome, MatchOption, Some, OnOk, OnErr, length, if◌then◌else◌, nat_eq};
 ghost use Rattle.std.specs.List.{AllByRecursion};
-ghost use Rattle.chr_value.specs.Stores.{greatest_label};
+ghost use Rattle.chr_value.specs.Bounds.{greatest_label};
 ghost use Rattle.chr_index.specs.Buckets.{drop_number};
 ghost use Rattle.chr_store.specs.Rows.{most_rows, place_of, row_at, row_of};
 

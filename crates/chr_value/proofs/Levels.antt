@@ -29,7 +29,7 @@ text-parts text c ts is e = ap text_value is ∙ text-Comp c ∙ ap (λ us. Comp
 
 -- a compound value that is made of one of a text
 pub made-Comp : {A : Type 0} (f : List ℕ → ℕ) (b : Box (CodeComp A) A) (made : CodeComp A) (text : CodeTextValue A) (c : Box (CodeTextComp A) A) (ts : List (CodeTextValue A)) → b.value ≡ made → text ≡ texts.Comp c → ts ≡ c.value.args.items
-    → made.functor.number ≡ f c.value.functor.now → grounds made.args.items ≡ map (renamed f) (text_values ts) → ground (code.Comp b) ≡ renamed f (text_value text)
+    → made.functor.number ≡ f c.value.functor.now → grounds made.args.list.items ≡ map (renamed f) (text_values ts) → ground (code.Comp b) ≡ renamed f (text_value text)
 made-Comp f b made text c ts holds is e functor args =
     ground-Comp b ∙ ap ground_comp holds ∙ ap₂ (λ (n : ℕ) (vs : List (Value ℕ)). Comp n (args_of vs)) functor args
     ∙ ap (λ us. Comp (f c.value.functor.now) us) (sym (renamed-args f (text_values ts))) ∙ ap (renamed f) (sym (text-parts text c ts is e))

@@ -41,7 +41,7 @@ ground_step (Value-F.Sym s) = Sym s.number
 ground_step (Value-F.Comp c) = c.value
 
 abbrev pub comp_step : {A : Type 0} → Comp-F A (Value ℕ) (Value ℕ) → Value ℕ
-comp_step c = Comp c.functor.number (args_of c.args.items)
+comp_step c = Comp c.functor.number (args_of c.args.list.items)
 
 -- what a value says
 abbrev pub ground : {A : Type 0} → CodeValue A → Value ℕ
@@ -52,7 +52,7 @@ grounds vs = map ground vs
 
 -- what a compound value says
 abbrev pub ground_comp : {A : Type 0} → CodeComp A → Value ℕ
-ground_comp c = Comp c.functor.number (args_of (grounds c.args.items))
+ground_comp c = Comp c.functor.number (args_of (grounds c.args.list.items))
 
 -- what a value that lies elsewhere says
 abbrev pub said : {A : Type 0} → ValueRef A → Value ℕ

@@ -1,6 +1,7 @@
 -- How deep and how large values are.
 use Rattle.std.specs.Prelude.{ℕ, suc, ◌+◌, ◌-◌, ◌≤◌, max, ◌&&◌, nat_le, if◌then◌else◌, Option, Some, None}
 use Rattle.chr_value.specs.Atoms.{Value, Int, Sym, Comp, Args, Nil, Cons}
+use Rattle.chr_value.specs.Bounds.{most_depth, most_size}
 
 -- a number or a symbol is 1 deep, a functor one deeper than its deepest argument
 abbrev mutual
@@ -23,13 +24,6 @@ abbrev mutual
   pub args_size : {N : Type 0} → Args N → ℕ
   args_size Nil = 0
   args_size (Cons v vs) = size v + args_size vs
-
--- how deep and how large a value may be
-abbrev pub most_depth : ℕ
-most_depth = 8
-
-abbrev pub most_size : ℕ
-most_size = 64
 
 -- neither too deep nor too large
 pub record IsWithin {N : Type 0} (v : Value N) : Type 0 where

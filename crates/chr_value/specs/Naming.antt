@@ -1,6 +1,7 @@
 -- Numbering the names of an atom, in the order of its text.
 use Rattle.std.specs.Prelude.{◌≡◌, ◌<◌, ℕ, ◌||◌, true, List, [], ◌∷◌, ◌++◌, length, nat_lt, Option, Some, None, Result, Ok, Err, if◌then◌else◌}
 use Rattle.std.specs.List.{AllByRecursion}
+use Rattle.chr_value.specs.Bounds.{most_names}
 use Rattle.chr_value.specs.Names.{has_text, number_of, with_text}
 use Rattle.chr_value.specs.Atoms.{Value, Int, Sym, Comp, Args, Nil, Cons, Atom}
 use Rattle.chr_value.specs.declared.names.NamesFault.{NamesFault}
@@ -19,7 +20,7 @@ Table = List (List ℕ)
 -- a name's number, and the table that has it; nothing for a 65,537th name
 abbrev pub number_name : Table → List ℕ → Option (ℕ × Table)
 number_name table t =
-    if has_text table t || nat_lt (length table) 65536
+    if has_text table t || nat_lt (length table) most_names
     then Some (number_of table t, with_text table t) else None
 
 -- the table has the term's names
@@ -86,6 +87,6 @@ table_after None = None
 abbrev pub IsEntered : {X Y : Type 0} → (Table → Type 0) → Result X NamesFault → Option (Y × Table)
     → Table → Type 0
 IsEntered HasThem (Ok x) read new = table_after read ≡ Some new
-IsEntered HasThem (Err faults.NoMemory) read new = length new < 65536
+IsEntered HasThem (Err faults.NoMemory) read new = length new < most_names
 IsEntered HasThem (Err faults.Full) read new =
-    (read ≡ None) × (length new ≡ 65536) × (HasThem new → ⊥)
+    (read ≡ None) × (length new ≡ most_names) × (HasThem new → ⊥)

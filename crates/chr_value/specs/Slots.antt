@@ -3,6 +3,7 @@ use Rattle.std.specs.Prelude.{ℕ, ◌≡◌, ◌<◌, ◌≤◌, ◌-◌, ◌%�
 use Rattle.std.specs.Int.{cast_signed, w64}
 use Rattle.std.specs.List.{slice_index_or, AllByRecursion}
 use Rattle.chr_value.specs.Atoms.{Value, Int, Sym, ground_comp}
+use Rattle.chr_value.specs.Bounds.{most_arguments}
 use Rattle.chr_value.specs.Limits.{IsWithin}
 use Rattle.chr_value.specs.declared.value.Comp.{Comp as CodeComp}
 use Rattle.chr_value.specs.declared.slots.Slot.{Slot}
@@ -76,7 +77,7 @@ HasPlace cs (slots.Comp i) = i < length cs
 
 -- at most 8 arguments, each within the limits, of which no more are compound
 pub record AreArguments {A : Type 0} (cs : List (CodeComp A)) (ss : List Slot) : Type 0 where
-  pub few : length ss ≤ 8
+  pub few : length ss ≤ most_arguments
   pub fewer : length cs ≤ length ss
   pub places : AllByRecursion (HasPlace cs) ss
   pub within : AllByRecursion IsWithin (values_in cs ss)

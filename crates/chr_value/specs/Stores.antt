@@ -5,10 +5,6 @@ use Rattle.chr_value.specs.Atoms.{Atom}
 abbrev pub Store : Type 0
 Store = List (ℕ × Atom ℕ)
 
--- the greatest label: a label has 32 bits
-abbrev pub greatest_label : ℕ
-greatest_label = 4294967295
-
 -- the atom under a label
 abbrev pub atom_at : Store → ℕ → Option (Atom ℕ)
 atom_at [] l = None

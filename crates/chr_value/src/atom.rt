@@ -2,6 +2,7 @@
 ghost use Rattle.std.specs.Prelude.{◌≡◌, ◌<◌, ◌≤◌, ◌↔◌, ◌++◌, ◌∷◌, [], Some, length, slice_get, IsTrue, IsSome, IfSome, IfOk, OnOk, OnErr};
 ghost use Rattle.std.specs.Option.{option_map};
 ghost use Rattle.chr_value.specs.Atoms.{ground, said, AtomIsNamed};
+ghost use Rattle.chr_value.specs.Bounds.{most_arguments};
 ghost use Rattle.chr_value.specs.Limits.{IsWithin};
 ghost use Rattle.chr_value.specs.Slots.{all_slots, comps_of, LieInOrder};
 ghost use Rattle.chr_value.specs.declared.slots.Slot.TheVariants as slots;
@@ -33,7 +34,7 @@ pub struct Pred {
 #[inline(always)]
 fn push_slot<A: Allocator>(front: &mut Front, beside: &mut Beside<A>, slot: Slot)
     requires order { LieInOrder front.old beside.old }
-    requires few { front.old.arity < 8 }
+    requires few { front.old.arity < most_arguments }
     requires open { 3 ≤ front.old.arity → IsSome beside.old }
     ensures order { LieInOrder front.new beside.new }
     ensures name { front.new.name ≡ front.old.name }
@@ -57,7 +58,7 @@ fn push_constant<A: Allocator + Copy>(
     slot: Slot,
 ) -> Result<(), AllocError>
     requires order { LieInOrder front.old beside.old }
-    requires few { front.old.arity < 8 }
+    requires few { front.old.arity < most_arguments }
     ensures order { LieInOrder front.new beside.new }
     ensures name { front.new.name ≡ front.old.name }
     ensures ok { OnOk result (all_slots front.new beside.new ≡ all_slots front.old beside.old ++ slot ∷ []) }
@@ -79,7 +80,7 @@ fn push_compound<A: Allocator + Copy>(
     comp: Comp<A>,
 ) -> Result<(), AllocError>
     requires order { LieInOrder front.old beside.old }
-    requires few { front.old.arity < 8 }
+    requires few { front.old.arity < most_arguments }
     requires fewer { length (comps_of beside.old) ≤ front.old.arity }
     ensures order { LieInOrder front.new beside.new }
     ensures name { front.new.name ≡ front.old.name }
@@ -168,7 +169,7 @@ impl<A: Allocator + Copy> Atom<A> {
     #[inline(always)]
     pub fn arity(&self) -> usize
         ensures count { result ≡ length self.now.args }
-        ensures fits { length self.now.args ≤ 8 }
+        ensures fits { length self.now.args ≤ most_arguments }
     {
         usize::from(self.front.arity)
     }
@@ -223,7 +224,7 @@ impl<A: Allocator + Copy> Atom<A> {
     /// does an argument from the fourth on. An `Err` is E01, and nothing has changed.
     #[inline(always)]
     pub fn push(&mut self, value: Value<A>) -> Result<(), AllocError>
-        requires room { length self.old.args < 8 }
+        requires room { length self.old.args < most_arguments }
         requires within { IsWithin (ground value) }
         ensures ok { OnOk result (self.new ≡ record { name = self.old.name; args = self.old.args ++ ground value ∷ [] }) }
         ensures err { OnErr result (self.new ≡ self.old) }

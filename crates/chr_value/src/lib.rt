@@ -3,7 +3,7 @@
 //! - A [`Names`] table numbers texts from 0 without gaps, at most 65,536 of at most 64 bytes. A name keeps
 //!   its number. After a refusal the table is as before, and `truncate` takes back the names from a number on.
 //! - A [`Value`] is a whole number of 64 bits, a symbol, which is a name, or a compound value: a functor, which is a
-//!   name, with values for arguments. A number or a symbol has depth 1 and size 1. A compound value is one deeper than
+//!   name, with one to eight values for arguments ([`Arguments`]). A number or a symbol has depth 1 and size 1. A compound value is one deeper than
 //!   its deepest argument, and one larger than its arguments together.
 //! - An [`Atom`] is a predicate's name with at most eight values, each at most 8 deep and 64 large: a constraint without
 //!   variables. Two atoms are the same where predicate and arguments are.
@@ -43,6 +43,7 @@
 
 mod atom;
 mod beside;
+mod compound;
 mod label;
 mod names;
 mod naming;
@@ -52,6 +53,7 @@ mod value;
 mod writing;
 
 pub use atom::{Atom, MOST_ARGS, OWN_ARGS, Pred};
+pub use compound::Arguments;
 pub use label::{GREATEST_LABEL, Label};
 pub use names::{MOST_NAME_BYTES, MOST_NAMES, Name, Names, NamesFault};
 pub use naming::{name_number, number_atom};

@@ -1,6 +1,7 @@
 //! Numbering the names of atoms.
 ghost use Rattle.std.specs.Prelude.{◌≡◌, ◌≤◌, ◌↔◌, ℕ, Some, Err, true, false, length, map, take, IfOk, IsOk, OnErr};
 ghost use Rattle.std.specs.List.{AllByRecursion};
+ghost use Rattle.chr_value.specs.Bounds.{most_name_bytes, most_names};
 ghost use Rattle.chr_value.specs.Names.{has_text, number_of, HasDistinctTexts};
 ghost use Rattle.chr_value.specs.Atoms.{Atom, AtomIsNamed, ground, grounds, renamed, atom_renamed, by_texts as names_by};
 ghost use Rattle.chr_value.specs.Naming.{TermIsKnown, AtomIsKnown, Named, IsEntered, number_name, numbered_value, number_terms, numbered_atom};
@@ -9,6 +10,7 @@ ghost use Rattle.chr_value.specs.Spelling.{FitsTerm, FitsAtom};
 ghost use Rattle.chr_value.specs.declared.names.NamesFault.TheVariants.{Full};
 
 use crate::atom::Atom;
+use crate::compound::Arguments;
 use crate::names::{Name, Names, NamesFault};
 use crate::text_atom::{TextAtom, TextValue};
 use crate::value::{Comp, Value};
@@ -21,23 +23,23 @@ pub fn name_number<A: Allocator + Copy>(
     names: &mut Names<A>,
     text: &str,
 ) -> Result<Name, NamesFault>
-    requires { length text.now ≤ 64 }
+    requires { length text.now ≤ most_name_bytes }
     ensures gives { Named (λ n. n.number) result (number_name names.old text.now) names.new }
-    ensures full { (result ≡ Err Full) ↔ ((length names.old ≡ 65536) × (has_text names.old text.now ≡ false)) }
+    ensures full { (result ≡ Err Full) ↔ ((length names.old ≡ most_names) × (has_text names.old text.now ≡ false)) }
     ensures finds { has_text names.old text.now ≡ true → IsOk result }
     ensures unchanged { OnErr result (names.new ≡ names.old) }
     ensures keeps { take (length names.old) names.new ≡ names.old }
-    ensures fits { length names.new ≤ 65536 }
+    ensures fits { length names.new ≤ most_names }
 {
     names.intern(text)
 }
 
 /// Enters a name's text where it is new.
 fn enter_name<A: Allocator + Copy>(names: &mut Names<A>, text: &str) -> Result<(), NamesFault>
-    requires { length text.now ≤ 64 }
+    requires { length text.now ≤ most_name_bytes }
     ensures enters { IsEntered (λ table. has_text table text.now ≡ true) result (number_name names.old text.now) names.new }
     ensures keeps { take (length names.old) names.new ≡ names.old }
-    ensures fits { length names.new ≤ 65536 }
+    ensures fits { length names.new ≤ most_names }
 {
     name_number(names, text)?;
     Ok(())
@@ -52,7 +54,7 @@ fn enter_value<A: Allocator + Copy>(
     requires { FitsTerm (word_of text.now) }
     ensures enters { IsEntered (λ table. TermIsKnown table (word_of text.now)) result (numbered_value names.old (word_of text.now)) names.new }
     ensures keeps { take (length names.old) names.new ≡ names.old }
-    ensures fits { length names.old ≤ 65536 → length names.new ≤ 65536 }
+    ensures fits { length names.old ≤ most_names → length names.new ≤ most_names }
 {
     match text {
         TextValue::Int(_) => Ok(()),
@@ -73,7 +75,7 @@ fn enter_values<A: Allocator + Copy>(
     requires { AllByRecursion FitsTerm (words_of texts.now) }
     ensures enters { IsEntered (λ table. AllByRecursion (TermIsKnown table) (words_of texts.now)) result (number_terms names.old (words_of texts.now)) names.new }
     ensures keeps { take (length names.old) names.new ≡ names.old }
-    ensures fits { length names.old ≤ 65536 → length names.new ≤ 65536 }
+    ensures fits { length names.old ≤ most_names → length names.new ≤ most_names }
 {
     for text in texts {
         enter_value(names, text)?;
@@ -102,6 +104,7 @@ fn make_value<A: Allocator + Copy>(
     names: &Names<A>,
     text: &TextValue<'_, A>,
 ) -> Result<Value<A>, AllocError>
+    requires { FitsTerm (word_of text.now) }
     ensures { IfOk result (λ made. ground made ≡ renamed (number_of names.now) (word_of text.now)) }
 {
     match text {
@@ -109,7 +112,7 @@ fn make_value<A: Allocator + Copy>(
         TextValue::Sym(name) => Ok(Value::Sym(name_in(names, name))),
         TextValue::Comp(comp) => {
             let functor = name_in(names, comp.functor);
-            let args = make_values(alloc, names, &comp.args)?;
+            let args = Arguments::new(make_values(alloc, names, &comp.args)?);
             Ok(Value::Comp(Box::new(alloc, Comp { functor, args })?))
         }
     }
@@ -122,6 +125,7 @@ fn make_values<A: Allocator + Copy>(
     names: &Names<A>,
     texts: &[TextValue<'_, A>],
 ) -> Result<Vec<Value<A>, A>, AllocError>
+    requires { AllByRecursion FitsTerm (words_of texts.now) }
     ensures { IfOk result (λ made. grounds made.items ≡ map (renamed (number_of names.now)) (words_of texts.now)) }
 {
     let mut made = Vec::with_capacity(alloc, texts.len())?;
@@ -160,11 +164,11 @@ pub fn number_atom<A: Allocator + Copy>(
 ) -> Result<Atom<A>, NamesFault>
     requires { FitsAtom (text_atom text.now) }
     ensures gives { Named (λ a. a) result (numbered_atom names.old (text_atom text.now)) names.new }
-    ensures full { (result ≡ Err Full) ↔ ((length names.new ≡ 65536) × (AtomIsKnown names.new (text_atom text.now) → ⊥)) }
+    ensures full { (result ≡ Err Full) ↔ ((length names.new ≡ most_names) × (AtomIsKnown names.new (text_atom text.now) → ⊥)) }
     ensures says { IfOk result (λ a. names_by names.new a ≡ text_atom text.now) }
     ensures again { (a : Atom ℕ) → HasDistinctTexts names.old → AtomIsNamed (length names.old) a → text_atom text.now ≡ names_by names.old a → Named (λ b. b) result (Some (a, names.old)) names.new }
     ensures keeps { take (length names.old) names.new ≡ names.old }
-    ensures fits { length names.new ≤ 65536 }
+    ensures fits { length names.new ≤ most_names }
 {
     enter_name(names, text.name)?;
     enter_values(names, &text.args)?;

@@ -1,5 +1,6 @@
 //! The slots in which an atom's arguments lie: some in the atom itself, and further ones beside it.
 ghost use Rattle.std.specs.Prelude.{◌≡◌, ◌<◌, ◌≤◌, ◌+◌, ◌++◌, ◌∷◌, [], Some, length, slice_get, take};
+ghost use Rattle.chr_value.specs.Bounds.{most_arguments};
 ghost use Rattle.chr_value.specs.Slots.{kind_of, slot_of, slots_of, own_slots, those_of};
 
 use crate::atom::MOST_ARGS;
@@ -141,7 +142,7 @@ impl Front {
     /// Counts an argument whose slot lies elsewhere, since there is no room here.
     pub(crate) fn count_further(&mut self)
         requires full { 3 ≤ self.old.arity }
-        requires few { self.old.arity < 8 }
+        requires few { self.old.arity < most_arguments }
         ensures name { self.new.name ≡ self.old.name }
         ensures arity { self.new.arity ≡ self.old.arity + 1 }
         ensures slots { own_slots self.new ≡ own_slots self.old }

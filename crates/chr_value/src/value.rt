@@ -3,6 +3,7 @@ ghost use Rattle.std.specs.Prelude.{◌≡◌, ◌↔◌, IsTrue, IfOk};
 ghost use Rattle.chr_value.specs.Atoms.{ground, ground_comp, said, TermIsNamed};
 ghost use Rattle.chr_value.specs.Limits.{left_of, left_after, IsWithin};
 
+use crate::compound::Arguments;
 use crate::names::Name;
 use std::alloc::{AllocError, Allocator};
 
@@ -21,12 +22,12 @@ pub enum Value<A: Allocator> {
     Comp(Box<Comp<A>, A>),
 }
 
-/// A functor with its arguments.
+/// A functor with its one to eight arguments.
 #[cycle(value)]
 #[derive(Drop)]
 pub struct Comp<A: Allocator> {
     pub functor: Name,
-    pub args: Vec<Value<A>, A>,
+    pub args: Arguments<Value<A>, A>,
 }
 
 /// A value that lies elsewhere. It is copied bit by bit.
@@ -132,7 +133,7 @@ impl<A: Allocator> Comp<A> {
         if count <= self.functor.number as usize {
             return false;
         }
-        for value in &self.args {
+        for value in self.args.iter() {
             if !value.is_named(count) {
                 return false;
             }
@@ -148,7 +149,7 @@ impl<A: Allocator> Comp<A> {
             return None;
         }
         let mut rest = room.checked_sub(1)?;
-        for value in &self.args {
+        for value in self.args.iter() {
             rest = value.left(depth - 1, rest)?;
         }
         Some(rest)
@@ -162,12 +163,12 @@ impl<A: Allocator + Copy> Comp<A> {
         ensures { IfOk result (λ made. ground_comp made ≡ ground_comp self.now) }
     {
         let mut args = Vec::with_capacity(alloc, self.args.len())?;
-        for value in &self.args {
+        for value in self.args.iter() {
             args.push_reserved(value.copy(alloc)?);
         }
         Ok(Comp {
             functor: self.functor,
-            args,
+            args: Arguments::new(args),
         })
     }
 }

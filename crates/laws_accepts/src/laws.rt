@@ -2,7 +2,7 @@
 ghost use Rattle.std.specs.Prelude.{◌≡◌, ◌↔◌, ◌≤◌, ℕ, List, Result, Ok, length};
 ghost use Rattle.std.specs.List.{AllByRecursion};
 ghost use Rattle.chr_value.specs.Atoms.{Atom};
-ghost use Rattle.chr_value.specs.Stores.{greatest_label};
+ghost use Rattle.chr_value.specs.Bounds.{greatest_label};
 ghost use Rattle.chr_rule.specs.Scope.{IsRule};
 ghost use Rattle.chr_log.specs.Events.{labelled_atoms};
 ghost use Rattle.chr_log.specs.declared.events.Version.TheVariants.{One, Two};

@@ -2,6 +2,7 @@
 ghost use Rattle.std.specs.Prelude.{◌≡◌, ◌≤◌, ℕ, List, Ok, map, length, take};
 ghost use Rattle.std.specs.List.{AllByRecursion};
 ghost use Rattle.chr_value.specs.Atoms.{Atom};
+ghost use Rattle.chr_value.specs.Bounds.{most_rules};
 ghost use Rattle.chr_value.specs.Naming.{Table};
 ghost use Rattle.chr_rule.specs.Scope.{IsRule};
 ghost use Rattle.chr_rule.specs.Rules.{Simpagation};
@@ -18,7 +19,7 @@ ghost use Rattle.chr_text.specs.Writable.{AreWritable};
 /// The rules that are read are at most 256, and each is in scope and within the limits.
 pub fn what_is_read_are_rules()
     ensures rules { (table : Table) (bytes : List ℕ) (p : Program) → program_of table bytes ≡ Ok p → AllByRecursion IsRule p.0 }
-    ensures few { (table : Table) (bytes : List ℕ) (p : Program) → program_of table bytes ≡ Ok p → length p.0 ≤ 256 }
+    ensures few { (table : Table) (bytes : List ℕ) (p : Program) → program_of table bytes ≡ Ok p → length p.0 ≤ most_rules }
 {}
 
 /// An instance of a rule that is read, over atoms that a log can hold, adds atoms that a log can hold. The table may have

@@ -1,6 +1,6 @@
 //! Books for crews, runs on them, and the check of what they leave.
 ghost use Rattle.std.specs.Prelude.{◌≤◌};
-ghost use Rattle.chr_value.specs.Stores.{greatest_label};
+ghost use Rattle.chr_value.specs.Bounds.{greatest_label};
 
 use chr_book::Book;
 use chr_calls::TicketState;

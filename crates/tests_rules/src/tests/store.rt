@@ -1,6 +1,6 @@
 //! The store, up to its limit.
 ghost use Rattle.std.specs.Prelude.{◌≤◌};
-ghost use Rattle.chr_value.specs.Stores.{greatest_label};
+ghost use Rattle.chr_value.specs.Bounds.{greatest_label};
 
 use crate::tests::texts::{atoms_of, inserts_text};
 use chr_store::{Store, StoreFault};

@@ -20,10 +20,10 @@ fit_term-returns-in-Var-clause-narrows g t c =
 
 pub fit_term-fit_terms-requires : goal.fit_term-fit_terms-requires
 fit_term-fit_terms-requires g t c κs within =
-    let are = c.deref-in-Comp-2.ensures.value ∙ ap (λ (k : CodeOpen _). k.args.items) c.deref-in-Comp.ensures in
+    let are = c.deref-in-Comp-2.ensures ∙ ap (λ (k : CodeOpen _). k.args.list.items) c.deref-in-Comp.ensures in
     let less : 2 * weights (map argument c.deref-in-Comp-2.result.now) + 1 < 2 * term_weight (argument c.args.term.now) = omega (arith, weight-parts _ c.in-Open.open c.deref-in-Comp-2.result.now c.in-Open.is are) in
     let known = known-parts _ c.in-Open.open c.deref-in-Comp-2.result.now c.in-Open.is are (length c.args.binding.now) ∙ c.requires.known in
-    let limits = comp_within c.in-Comp.comp.now c.deref-in-Comp-3.result.now c.deref-in-Comp-3.ensures.value (subst IsWithin (ap said c.in-Comp.is) c.requires.within) in
+    let limits = comp_within c.in-Comp.comp.now c.deref-in-Comp-3.result.now c.deref-in-Comp-3.ensures (subst IsWithin (ap said c.in-Comp.is) c.requires.within) in
     (subst (λ n. 2 * weights (map argument c.deref-in-Comp-2.result.now) + 1 < n) c.decreases less, (within, (omega arith, (known, limits))))
 
 pub fit_term-returns-else-deref-comp-clause-narrows : goal.fit_term-returns-else-deref-comp-clause-narrows
@@ -31,7 +31,7 @@ fit_term-returns-else-deref-comp-clause-narrows g t c =
     let says : said c.args.value ≡ ground_comp c.in-Comp.comp.now = ap said c.in-Comp.is in
     let opens = λ (v : Valuation). under-open v c.args.term.now c.in-Open.open c.in-Comp.comp.now c.deref-in-Comp-2.result.now c.deref-in-Comp-3.result.now c.in-Open.is
     (ap (λ (k : CodeOpen _). k.functor.number) (sym c.deref.ensures) ∙ c.if-deref-comp.false)
-    (c.deref-in-Comp-2.ensures.value ∙ ap (λ (k : CodeOpen _). k.args.items) c.deref-in-Comp.ensures) c.deref-in-Comp-3.ensures.value in
+    (c.deref-in-Comp-2.ensures ∙ ap (λ (k : CodeOpen _). k.args.list.items) c.deref-in-Comp.ensures) c.deref-in-Comp-3.ensures in
     told_as (λ v. map (term_under v) (map argument c.deref-in-Comp-2.result.now) ≡ map (λ t. Some (ground t)) c.deref-in-Comp-3.result.now) (λ v. term_under v (argument c.args.term.now) ≡ Some (said c.args.value)) c.fit_terms.result c.args.binding.now c.fit_terms.new.binding
     (λ v. (λ h. (opens v).0 h ∙ ap (λ x. Some x) (sym says), λ h. (opens v).1 (h ∙ ap (λ x. Some x) says))) c.fit_terms.ensures.narrows
 

@@ -7,4 +7,4 @@ pub bind_term-returns-in-Open : goal.bind_term-returns-in-Open
 bind_term-returns-in-Open g t c = λ x.
     c.bind_terms.ensures x
     ∙ ap (λ (b : Bool). b || slice_index_or c.args.bound.now x false)
-    (stands-parts _ c.in-Open.open _ c.in-Open.is (c.deref-in-Open.ensures.value ∙ ap (λ (k : CodeOpen _). k.args.items) c.deref.ensures) x)
+    (stands-parts _ c.in-Open.open _ c.in-Open.is (c.deref-in-Open.ensures ∙ ap (λ (k : CodeOpen _). k.args.list.items) c.deref.ensures) x)

@@ -1,4 +1,4 @@
-use Rattle.std.proofs.Common.{◌&&◌, length, map, nat_le, sym, ap, ◌∙◌}
+use Rattle.std.proofs.Common.{map, sym, ap, ◌∙◌}
 use Rattle.std.specs.List.{list_any}
 use Rattle.chr_rule.specs.Parts.{argument}
 use Rattle.chr_rule.specs.Terms.{IsCanonical, is_open}
@@ -9,13 +9,13 @@ use Rattle.chr_rule.proofs.term.+canonical.Goals as goal
 
 pub Term::is_canonical-returns-then-are_open : goal.Term::is_canonical-returns-then-are_open
 Term::is_canonical-returns-then-are_open g t c =
-    let again = c.deref-then-are_open-2.ensures.value ∙ ap (λ (k : CodeOpen _). k.args.items) c.deref-then-are_open.ensures in
-    let opens = c.are_open.ensures ∙ ap (λ us. nat_le (length us) 8 && list_any is_open (map argument us)) ((c.deref-in-Open.ensures.value ∙ ap (λ (k : CodeOpen _). k.args.items) c.deref.ensures) ∙ sym again) in
+    let again = c.deref-then-are_open-2.ensures ∙ ap (λ (k : CodeOpen _). k.args.list.items) c.deref-then-are_open.ensures in
+    let opens = c.are_open.ensures ∙ ap (λ us. list_any is_open (map argument us)) ((c.deref-in-Open.ensures ∙ ap (λ (k : CodeOpen _). k.args.list.items) c.deref.ensures) ∙ sym again) in
     canonical-told _ c.in-Open.open c.deref-then-are_open-2.result.now c.in-Open.is again c.are_open.result c.are_canonical.result opens c.if-are_open.true c.are_canonical.ensures
 
 pub Term::is_canonical-returns-else-are_open : goal.Term::is_canonical-returns-else-are_open
 Term::is_canonical-returns-else-are_open g t c =
-    canonical-not _ c.in-Open.open c.deref-in-Open.result.now c.in-Open.is (c.deref-in-Open.ensures.value ∙ ap (λ (k : CodeOpen _). k.args.items) c.deref.ensures) c.are_open.result c.are_open.ensures c.if-are_open.false
+    canonical-not _ c.in-Open.open c.deref-in-Open.result.now c.in-Open.is (c.deref-in-Open.ensures ∙ ap (λ (k : CodeOpen _). k.args.list.items) c.deref.ensures) c.are_open.result c.are_open.ensures c.if-are_open.false
 
 pub are_canonical-returns-then-not-is_canonical : goal.are_canonical-returns-then-not-is_canonical
 are_canonical-returns-then-not-is_canonical g t c =

@@ -8,7 +8,7 @@ use Rattle.chr_rule.proofs.term.+known.Goals as goal
 
 pub Term::is_known-returns-in-Open : goal.Term::is_known-returns-in-Open
 Term::is_known-returns-in-Open g t c =
-    c.are_known.ensures ∙ known-parts _ c.in-Open.open _ c.in-Open.is (c.deref-in-Open.ensures.value ∙ ap (λ (k : CodeOpen _). k.args.items) c.deref.ensures) c.args.known
+    c.are_known.ensures ∙ known-parts _ c.in-Open.open _ c.in-Open.is (c.deref-in-Open.ensures ∙ ap (λ (k : CodeOpen _). k.args.list.items) c.deref.ensures) c.args.known
 
 pub are_known-returns-then-not-is_known : goal.are_known-returns-then-not-is_known
 are_known-returns-then-not-is_known g t c = rw (← c.loop-term.invariant, map-left argument _ _ _ c.loop-term-test.true c.term-item.is, ← c.is_known.ensures, c.if-not-is_known.true)

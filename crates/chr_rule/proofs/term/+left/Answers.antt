@@ -10,7 +10,7 @@ use Rattle.chr_rule.proofs.term.+left.Goals as goal
 pub Term::left-returns-in_ok-rest-in-Open : goal.Term::left-returns-in_ok-rest-in-Open
 Term::left-returns-in_ok-rest-in-Open g t c =
     c.left_behind.ensures
-    ∙ left-parts _ c.in-Open.open _ c.in-Open.is (c.deref-in-Open.ensures.value ∙ ap (λ (k : CodeOpen _). k.args.items) c.deref.ensures) c.args.depth c.args.room c.in_ok-rest-in-Open.rest
+    ∙ left-parts _ c.in-Open.open _ c.in-Open.is (c.deref-in-Open.ensures ∙ ap (λ (k : CodeOpen _). k.args.list.items) c.deref.ensures) c.args.depth c.args.room c.in_ok-rest-in-Open.rest
     (omega arith) (omega (arith, c.in_ok-rest-in-Open.ensures.0, c.in_ok-rest-in-Open.ensures.1))
 
 pub left_behind-returns-in_err-rest : goal.left_behind-returns-in_err-rest

@@ -1,17 +1,31 @@
-use Rattle.std.proofs.Common.{sym, ap, ◌∙◌, arith}
+use Rattle.std.proofs.Common.{◌<◌, ◌+◌, ◌*◌, map, sym, ap, subst, ◌∙◌, arith}
 use Rattle.chr_rule.specs.Parts.{argument}
+use Rattle.chr_rule.specs.Rules.{terms_of}
+use Rattle.chr_rule.specs.Terms.{term_size, terms_size}
 use Rattle.chr_rule.specs.declared.term.Open.{Open as CodeOpen}
-use Rattle.chr_rule.proofs.Levels.{same-told}
+use Rattle.chr_rule.proofs.Levels.{argument-parts, same-told, term-size-at}
 use Rattle.chr_rule.proofs.Lists.{differ_at}
 use Rattle.chr_rule.proofs.Places.{differ_long, same_more, same_told}
 use Rattle.chr_rule.proofs.term.+same.Goals as goal
+
+pub Term::same-same_terms-requires : goal.Term::same-same_terms-requires
+Term::same-same_terms-requires g t c κs within =
+    let ts = c.deref-then-deref-2.result.now in
+    let is = argument-parts _ c.in-Open-Open.a ts c.in-Open-Open.is-0 (c.deref-then-deref-2.ensures ∙ ap (λ (k : CodeOpen _). k.args.list.items) c.deref-then-deref.ensures) in
+    (subst (λ n. 2 * terms_size (terms_of (map argument ts)) + 1 < n) c.decreases (omega (arith, ap term_size is)), within)
+
+pub same_terms-same-requires : goal.same_terms-same-requires
+same_terms-same-requires g t c κs within =
+    let x = c.index-terms-i.result in
+    let less : 2 * term_size (argument x) < 2 * terms_size (terms_of (map argument c.args.terms.now)) + 1 = omega (arith, term-size-at argument c.args.terms.now c.loop-i.i x (omega arith) c.index-terms-i.is) in
+    (subst (λ n. 2 * term_size (argument x) < n) c.decreases less, within)
 
 pub Term::same-returns-then-deref : goal.Term::same-returns-then-deref
 Term::same-returns-then-deref g t c =
     same-told _ _ c.in-Open-Open.a c.in-Open-Open.b _ _ _ c.in-Open-Open.is-0 c.in-Open-Open.is-1
     (ap (λ (k : CodeOpen _). k.functor.number) (sym c.deref.ensures) ∙ c.if-deref.true ∙ ap (λ (k : CodeOpen _). k.functor.number) c.deref-in-Open-Open.ensures)
-    (c.deref-then-deref-2.ensures.value ∙ ap (λ (k : CodeOpen _). k.args.items) c.deref-then-deref.ensures)
-    (c.deref-then-deref-4.ensures.value ∙ ap (λ (k : CodeOpen _). k.args.items) c.deref-then-deref-3.ensures) c.same_terms.ensures
+    (c.deref-then-deref-2.ensures ∙ ap (λ (k : CodeOpen _). k.args.list.items) c.deref-then-deref.ensures)
+    (c.deref-then-deref-4.ensures ∙ ap (λ (k : CodeOpen _). k.args.list.items) c.deref-then-deref-3.ensures) c.same_terms.ensures
 
 pub same_terms-returns-then-not-same : goal.same_terms-returns-then-not-same
 same_terms-returns-then-not-same g t c =

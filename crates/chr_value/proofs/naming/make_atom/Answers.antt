@@ -3,11 +3,16 @@ use Rattle.std.proofs.lemmas.List.{map_push}
 use Rattle.chr_value.specs.Names.{number_of}
 use Rattle.chr_value.specs.Atoms.{Value, Atom, ground, renamed}
 use Rattle.chr_value.specs.Limits.{IsWithin}
+use Rattle.chr_value.specs.Spelling.{FitsTerm}
 use Rattle.chr_value.specs.TextAtoms.{text_value, text_values}
 use Rattle.chr_value.proofs.Back.{within_same}
 use Rattle.chr_value.proofs.Lists.{atom}
 use Rattle.chr_value.proofs.Places.{all-at, front-more}
 use Rattle.chr_value.proofs.naming.make_atom.Goals as goal
+
+pub make_value-requires : goal.make_value-requires
+make_value-requires g c =
+    all-at text_value FitsTerm c.deref-value-items.result.now c.loop-value.value-index c.value-item.result c.loop-value-test.true c.value-item.is (rw c.deref-value-items.ensures.value c.requires.args)
 
 pub push-requires-clause-within : goal.push-requires-clause-within
 push-requires-clause-within g c =

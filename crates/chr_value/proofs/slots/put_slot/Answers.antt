@@ -2,7 +2,7 @@ use Rattle.std.proofs.Common.{◌≡◌, ◌<◌, suc, ◌+◌, ◌++◌, ◌∷
 use Rattle.chr_value.specs.Slots.{slot_of, slots_of}
 use Rattle.chr_value.specs.declared.slots.Kind.{Kind}
 use Rattle.chr_value.specs.declared.slots.Slot.{Slot}
-use Rattle.chr_value.proofs.Arguments.{one-more}
+use Rattle.chr_value.proofs.ArgumentLaws.{one-more}
 use Rattle.chr_value.proofs.slots.put_slot.Goals as goal
 
 pub returns : goal.returns

@@ -1,7 +1,7 @@
 use Rattle.std.proofs.Common.{◌<◌, Some, length, ap, ◌∙◌, arith}
 use Rattle.chr_value.specs.declared.slots.Slot.{Slot}
 use Rattle.chr_value.specs.declared.slots.Kind.TheVariants as kinds
-use Rattle.chr_value.proofs.Arguments.{packed-at}
+use Rattle.chr_value.proofs.ArgumentLaws.{packed-at}
 use Rattle.chr_value.proofs.slots.slot_at.Goals as goal
 
 pub returns : goal.returns

@@ -12,7 +12,7 @@ pub put_comp-write_value-requires : goal.put_comp-write_value-requires
 put_comp-write_value-requires g t c κs within =
     let items = c.deref-value-items.result.now in
     let least = size-at ground items c.loop-i.i c.value-item.result c.loop-i-test.true c.value-item.is in
-    let whole = ap (λ vs. args_size (args_of (grounds vs))) c.deref-value-items.ensures.value in
+    let whole = ap (λ vs. args_size (args_of (grounds vs))) c.deref-value-items.ensures in
     let less : 2 * size (said c.as_ref.result) + 1 < 2 * size (ground_comp c.args.comp.now) = omega (arith, least, whole, ap size c.as_ref.ensures) in
     (subst (λ n. 2 * size (said c.as_ref.result) + 1 < n) c.decreases less, within)
 
@@ -26,10 +26,10 @@ put_comp-loop-i-preserved g t c =
 
 pub put_comp-returns-clause-writes : goal.put_comp-returns-clause-writes
 put_comp-returns-clause-writes g t c =
-    let vs = grounds c.args.comp.now.args.items in
+    let vs = grounds c.args.comp.now.args.list.items in
     let table = c.args.names.now in
     let s = c.args.comp.now.functor.number in
-    let all : grounds (take c.loop-i.i c.deref-value-items.result.now) ≡ vs = front-all ground c.deref-value-items.result.now c.loop-i.i c.loop-i-test.false ∙ ap grounds c.deref-value-items.ensures.value in
-    let count : c.len.result ≡ length vs = omega (arith, c.len.ensures, c.args.comp.now.args.ok.0, length-map c.args.comp.now.args.items ground) in
+    let all : grounds (take c.loop-i.i c.deref-value-items.result.now) ≡ vs = front-all ground c.deref-value-items.result.now c.loop-i.i c.loop-i-test.false ∙ ap grounds c.deref-value-items.ensures in
+    let count : c.len.result ≡ length vs = omega (arith, c.len.ensures, length-map c.args.comp.now.args.list.items ground) in
     subst (λ (w : List ℕ). OnOk c.put_behind.result (c.put_behind.new.out.items ≡ w))
     (finish table c.args.out.now.items (text_of table s) c.loop-i.out.items vs _ c.len.result all count c.loop-i.invariant.written ∙ ap (λ (w : List ℕ). c.args.out.now.items ++ w) (sym (text-Comp table s vs))) c.put_behind.ensures.writes

@@ -1,14 +1,27 @@
-use Rattle.std.proofs.Common.{refl, arith, sym, ap, ◌∙◌}
+use Rattle.std.proofs.Common.{◌<◌, ◌+◌, ◌*◌, map, refl, arith, sym, ap, subst, ◌∙◌}
+use Rattle.chr_rule.specs.Parts.{argument}
 use Rattle.chr_rule.specs.declared.term.Open.{Open as CodeOpen}
 use Rattle.chr_guard.specs.Bindings.{bound_at}
-use Rattle.chr_guard.proofs.Under.{SameFrom, same-next, same-stop, same-end, same-count, same-opens}
+use Rattle.chr_guard.proofs.Under.{SameFrom, term_weight, weights, weight-at, weight-parts, same-next, same-stop, same-end, same-count, same-opens}
 use Rattle.chr_guard.proofs.binding.Binding.+same.Goals as goal
+
+pub same-all_same-requires : goal.same-all_same-requires
+same-all_same-requires g t c κs within =
+    let terms = c.deref-then-deref-2.result.now in
+    let is = weight-parts _ c.in-Open.open terms c.in-Open.is (c.deref-then-deref-2.ensures ∙ ap (λ (k : CodeOpen _). k.args.list.items) c.deref-then-deref.ensures) in
+    (subst (λ n. 2 * weights (map argument terms) + 1 < n) c.decreases (omega (arith, is)), (within, omega arith))
+
+pub all_same-same-requires : goal.all_same-same-requires
+all_same-same-requires g t c κs within =
+    let term = c.index-terms-i.result in
+    let less : 2 * term_weight (argument term) < 2 * weights (map argument c.args.terms.now) + 1 = omega (arith, weight-at c.args.terms.now c.loop-i.i term c.loop-i-test.true c.index-terms-i.is) in
+    (subst (λ n. 2 * term_weight (argument term) < n) c.decreases less, (within, omega arith))
 
 pub same-returns-then-deref : goal.same-returns-then-deref
 same-returns-then-deref g t c =
     let opens =
     same-opens (bound_at c.args.self.now) c.args.s.now c.args.t.now c.in-Open.open c.in-Open-t.other c.in-Open.is c.in-Open-t.is c.deref-then-deref-2.result.now c.deref-then-deref-4.result.now
-    (c.deref-then-deref-2.ensures.value ∙ ap (λ (k : CodeOpen _). k.args.items) c.deref-then-deref.ensures) (c.deref-then-deref-4.ensures.value ∙ ap (λ (k : CodeOpen _). k.args.items) c.deref-then-deref-3.ensures)
+    (c.deref-then-deref-2.ensures ∙ ap (λ (k : CodeOpen _). k.args.list.items) c.deref-then-deref.ensures) (c.deref-then-deref-4.ensures ∙ ap (λ (k : CodeOpen _). k.args.list.items) c.deref-then-deref-3.ensures)
     (ap (λ (k : CodeOpen _). k.functor.number) (sym c.deref.ensures) ∙ c.if-deref.true ∙ ap (λ (k : CodeOpen _). k.functor.number) c.deref-in-Open-t.ensures) in
     (λ h. opens.0 (c.all_same.ensures.0 h), λ h. c.all_same.ensures.1 (opens.1 h))
 

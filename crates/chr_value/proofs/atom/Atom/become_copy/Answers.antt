@@ -1,7 +1,7 @@
 use Rattle.std.proofs.Common.{subst, sym, ap, map, ◌∙◌}
 use Rattle.chr_value.specs.Atoms.{ground_comp}
 use Rattle.chr_value.specs.Slots.{further_slots, all_slots, comps_of, LieInOrder, AreArguments}
-use Rattle.chr_value.proofs.Arguments.{beside-copied}
+use Rattle.chr_value.proofs.ArgumentLaws.{beside-copied}
 use Rattle.chr_value.proofs.atom.Atom.become_copy.Goals.{in-None, in_default+in_ok-beside-in_default}
 use Rattle.chr_value.proofs.atom.Atom.become_copy.Goals as goal
 

@@ -4,7 +4,7 @@ use Rattle.std.proofs.lemmas.Option.{slice_get-map}
 use Rattle.chr_value.specs.Atoms.{Value, Atom}
 use Rattle.chr_value.specs.Limits.{IsWithin}
 use Rattle.chr_value.specs.Slots.{all_slots, comps_of, value_in, HasPlace}
-use Rattle.chr_value.proofs.Arguments.{lies-behind}
+use Rattle.chr_value.proofs.ArgumentLaws.{lies-behind}
 use Rattle.chr_value.proofs.Places.{got, got-all}
 use Rattle.chr_value.proofs.atom.Atom.further_arg_at.Goals as goal
 

@@ -3,7 +3,7 @@ use Rattle.chr_value.specs.Atoms.{Int, ground, ground_comp}
 use Rattle.chr_value.specs.Slots.{all_slots, comps_of}
 use Rattle.chr_value.specs.declared.names.Name.{Name}
 use Rattle.chr_value.proofs.Levels.{ground-Int, ground-Sym, ground-Comp}
-use Rattle.chr_value.proofs.Arguments.{Pushed, constant-pushed, compound-pushed, atom-pushed, room-left}
+use Rattle.chr_value.proofs.ArgumentLaws.{Pushed, constant-pushed, compound-pushed, atom-pushed, room-left}
 use Rattle.chr_value.proofs.atom.Atom.push.Given.{Over}
 use Rattle.chr_value.proofs.atom.Atom.push.Goals as goal
 use Rattle.chr_value.proofs.atom.Atom.push.Goals.{Joined-value, in-Int, in-Sym, in-Comp}

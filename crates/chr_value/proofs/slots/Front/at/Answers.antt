@@ -1,5 +1,5 @@
 use Rattle.std.proofs.Common.{◌∙◌}
-use Rattle.chr_value.proofs.Arguments.{among-first}
+use Rattle.chr_value.proofs.ArgumentLaws.{among-first}
 use Rattle.chr_value.proofs.slots.Front.at.Goals as goal
 
 pub returns : goal.returns

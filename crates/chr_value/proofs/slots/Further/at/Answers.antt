@@ -1,5 +1,5 @@
 use Rattle.std.proofs.Common.{◌<◌, ◌∙◌, arith}
-use Rattle.chr_value.proofs.Arguments.{among-first, first-within}
+use Rattle.chr_value.proofs.ArgumentLaws.{among-first, first-within}
 use Rattle.chr_value.proofs.slots.Further.at.Goals as goal
 
 pub slot_at-requires : goal.slot_at-requires

@@ -1,5 +1,5 @@
 use Rattle.std.proofs.Common.{◌<◌, arith}
-use Rattle.chr_value.proofs.Arguments.{room-behind}
+use Rattle.chr_value.proofs.ArgumentLaws.{room-behind}
 use Rattle.chr_value.proofs.slots.Further.push.Goals as goal
 
 pub put_slot-requires : goal.put_slot-requires
