@@ -9,7 +9,7 @@ use Rattle.chr_lex.specs.Tokens as word
 use Rattle.chr_lex.specs.Tokens.{Lexeme, OfWord, OfMark}
 use Rattle.chr_rule.specs.declared.expression.Operator.{Operator}
 use Rattle.chr_rule.specs.declared.expression.Operator.TheVariants as operator
-use Rattle.chr_grammar.specs.declared.expression.TheConstants.{MOST_DEPTH}
+use Rattle.chr_value.specs.Bounds.{most_expression_depth}
 use Rattle.chr_grammar.specs.Parsed.{ParsedExpression, Group, Operation}
 use Rattle.chr_grammar.specs.Parsing.{Front, is_mark, sum_operator, product_operator, enclosed, fits, factor_at, chain_at, level_at, product_at, sum_at, expression_at}
 use Rattle.chr_grammar.specs.Spelling.{operator_sign, formula_spelled, binds, holds, depth, IsGrouped, IsExpression, EndsExpression}
@@ -105,8 +105,8 @@ ExpressionRead = FrontRead IsExpression formula_spelled
 pub expression_found : (ts : List Lexeme) → ExpressionRead ts (expression_at ts)
 unfolding expression_at
 expression_found ts =
-    then_read _ _ (sum_at MOST_DEPTH ts) _ (sum_found MOST_DEPTH ts)
-    (λ x h. cond_both (fits MOST_DEPTH x.0) _ _ (ExpressionRead ts) (λ d. ((h.0, fits_depth MOST_DEPTH x.0 d), h.2)) (λ d. refl))
+    then_read _ _ (sum_at most_expression_depth ts) _ (sum_found most_expression_depth ts)
+    (λ x h. cond_both (fits most_expression_depth x.0) _ _ (ExpressionRead ts) (λ d. ((h.0, fits_depth most_expression_depth x.0 d), h.2)) (λ d. refl))
 
 -- ---- what is spelled so is read
 
@@ -234,8 +234,8 @@ depth_fits (suc n) _ h = refl
 pub expression_again : (f : ParsedExpression) (rest : List Lexeme) → IsExpression f → NoOperator product_operator rest → NoOperator sum_operator rest → expression_at (formula_spelled f ++ rest) ≡ Ok (f, rest)
 unfolding expression_at
 expression_again f rest stands no_products no_sums =
-    let read : sum_at MOST_DEPTH (formula_spelled f ++ rest) ≡ Ok (f, rest) = sum_again MOST_DEPTH (omega arith) f rest stands.0 stands.1 no_products no_sums in
-    let enough : fits MOST_DEPTH f ≡ true = depth_fits MOST_DEPTH f stands.1 in
+    let read : sum_at most_expression_depth (formula_spelled f ++ rest) ≡ Ok (f, rest) = sum_again most_expression_depth (omega arith) f rest stands.0 stands.1 no_products no_sums in
+    let enough : fits most_expression_depth f ≡ true = depth_fits most_expression_depth f stands.1 in
     rw (read, enough) refl
 
 no_sign : (k : ℕ) (operator : Lexeme → Option Operator) (s : Lexeme) (o : Option Operator) → OfLevel k operator → operator s ≡ o → ((p : Operator) → s ≡ operator_sign p → ⊥) → operator s ≡ None

@@ -14,7 +14,7 @@ use Rattle.chr_rule.specs.declared.expression.Operator.{Operator}
 use Rattle.chr_rule.specs.declared.expression.Operator.TheVariants.{Add, Sub, Mul, Quot, Rem, Mod}
 use Rattle.chr_rule.specs.declared.expression.Relation.{Relation}
 use Rattle.chr_rule.specs.declared.expression.Relation.TheVariants.{Less, LessEqual, Greater, GreaterEqual, Equal, Unequal}
-use Rattle.chr_grammar.specs.declared.expression.TheConstants.{MOST_DEPTH}
+use Rattle.chr_value.specs.Bounds.{most_expression_depth}
 use Rattle.chr_grammar.specs.declared.expression.Level.{Level}
 use Rattle.chr_grammar.specs.declared.expression.Level.TheVariants as level
 use Rattle.chr_grammar.specs.declared.sign.Divider.{Divider}
@@ -188,7 +188,8 @@ chain_at operator side (suc n) left (s ∷ ts) =
 -- sides with operators of a level between them
 abbrev pub level_at : (Lexeme → Option Operator) → (List Lexeme → Front ParsedExpression) →
     List Lexeme → Front ParsedExpression
-level_at operator side ts = side ts >>= λ x. chain_at operator side (MOST_DEPTH - 1) x.0 x.1
+level_at operator side ts =
+    side ts >>= λ x. chain_at operator side (most_expression_depth - 1) x.0 x.1
 
 abbrev pub product_at : (List Lexeme → Front ParsedExpression) → List Lexeme →
     Front ParsedExpression
@@ -219,10 +220,10 @@ fits (suc n) (parsed.Group f) = fits n f
 fits (suc n) (parsed.Operation o f g) = fits n f && fits n g
 
 abbrev pub fitting : ParsedExpression → List Lexeme → Front ParsedExpression
-fitting f ts = if fits MOST_DEPTH f then Ok (f, ts) else Err Syntax
+fitting f ts = if fits most_expression_depth f then Ok (f, ts) else Err Syntax
 
 unfoldable pub expression_at : List Lexeme → Front ParsedExpression
-expression_at ts = sum_at MOST_DEPTH ts >>= λ x. fitting x.0 x.1
+expression_at ts = sum_at most_expression_depth ts >>= λ x. fitting x.0 x.1
 
 -- ---- guards
 

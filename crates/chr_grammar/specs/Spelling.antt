@@ -10,7 +10,7 @@ use Rattle.chr_rule.specs.declared.expression.Operator.{Operator}
 use Rattle.chr_rule.specs.declared.expression.Operator.TheVariants as operator
 use Rattle.chr_rule.specs.declared.expression.Relation.{Relation}
 use Rattle.chr_rule.specs.declared.expression.Relation.TheVariants as relation
-use Rattle.chr_grammar.specs.declared.expression.TheConstants.{MOST_DEPTH}
+use Rattle.chr_value.specs.Bounds.{most_expression_depth}
 use Rattle.chr_grammar.specs.Parsed.{ParsedExpression, Number, Variable, Group, Operation, TermNode, ParsedTerm, is_name, ParsedAtom, GuardMember, Always, Compared, Same, Differ, BodyMember, Nothing, Is, Add, ParsedRule, Declared, Statement, Import, Declaration, Rule}
 
 -- ---- lists by commas
@@ -139,7 +139,7 @@ depth (Group f) = suc (depth f)
 depth (Operation o f g) = suc (max (depth f) (depth g))
 
 abbrev pub IsExpression : ParsedExpression → Type 0
-IsExpression f = IsGrouped f × (depth f ≤ MOST_DEPTH)
+IsExpression f = IsGrouped f × (depth f ≤ most_expression_depth)
 
 -- nothing, or no operator
 abbrev pub EndsExpression : List Lexeme → Type 0

@@ -1,3 +1,4 @@
 pub mod Arguments
 pub mod Meeting
 pub mod Standing
+pub mod Trees

@@ -6,3 +6,4 @@ pub mod Views
 pub mod Scope
 pub mod Judging
 pub mod Standing
+pub mod Trees

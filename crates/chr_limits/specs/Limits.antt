@@ -1,9 +1,9 @@
 -- What is too long or too many.
 use Rattle.std.specs.Prelude.{ℕ, suc, Bool, true, false, ◌+◌, ◌||◌, List, [], ◌∷◌, length, nat_lt, nat_le, nat_eq, filter}
 use Rattle.std.specs.List.{list_any, take_while}
+use Rattle.chr_value.specs.Bounds.{most_arguments, most_comparisons, most_depth, most_heads, most_items, most_size, most_variables}
 use Rattle.chr_grammar.specs.Parsed as parsed
 use Rattle.chr_grammar.specs.Parsed.{TermNode, ParsedTerm, ParsedAtom, GuardMember, BodyMember, ParsedRule}
-use Rattle.chr_limits.specs.declared.terms.TheConstants.{MOST_TERM_DEPTH, MOST_TERM_SIZE}
 use Rattle.chr_limits.specs.Words.{is_long, rule_has}
 use Rattle.chr_limits.specs.Variables.{variables_of, seen}
 
@@ -11,7 +11,7 @@ use Rattle.chr_limits.specs.Variables.{variables_of, seen}
 -- its size one more than the sum of theirs, so the depth of a term is one more than the most
 -- parentheses in which a word of it stands, and its size is how many words it has.
 abbrev pub is_deep : ParsedTerm → Bool
-is_deep t = list_any (λ n. nat_le MOST_TERM_DEPTH n.depth) t
+is_deep t = list_any (λ n. nat_le most_depth n.depth) t
 
 -- how many arguments a word in so many parentheses has, by the nodes behind it: those one deeper,
 -- up to the first that isn't deeper
@@ -22,10 +22,11 @@ arguments_behind d ns =
 -- a functor with more than 8 arguments
 abbrev pub has_wide_functor : ParsedTerm → Bool
 has_wide_functor [] = false
-has_wide_functor (n ∷ ns) = nat_lt 8 (arguments_behind n.depth ns) || has_wide_functor ns
+has_wide_functor (n ∷ ns) =
+    nat_lt most_arguments (arguments_behind n.depth ns) || has_wide_functor ns
 
 abbrev pub is_large_term : ParsedTerm → Bool
-is_large_term t = nat_lt MOST_TERM_SIZE (length t) || is_deep t || has_wide_functor t
+is_large_term t = nat_lt most_size (length t) || is_deep t || has_wide_functor t
 
 -- terms that are too large, in an atom, a guard or a body
 abbrev pub has_large_args : ParsedAtom → Bool
@@ -49,7 +50,7 @@ has_large_term r =
 
 -- an atom with more than 8 arguments
 abbrev pub has_many_args : ParsedAtom → Bool
-has_many_args p = nat_lt 8 (length p.args)
+has_many_args p = nat_lt most_arguments (length p.args)
 
 abbrev pub adds_many_args : BodyMember → Bool
 adds_many_args parsed.Nothing = false
@@ -76,9 +77,10 @@ has_wide_atom r =
 -- more than 6 heads, 16 comparisons, 16 body items or 24 variables
 abbrev pub has_many_parts : ParsedRule → Bool
 has_many_parts r =
-    nat_lt 6 (length r.kept + length r.removed) ||
-    nat_lt 16 (length (filter is_comparison r.guard)) ||
-    nat_lt 16 (length (filter is_item r.body)) || nat_lt 24 (length (seen (variables_of r)))
+    nat_lt most_heads (length r.kept + length r.removed) ||
+    nat_lt most_comparisons (length (filter is_comparison r.guard)) ||
+    nat_lt most_items (length (filter is_item r.body)) ||
+    nat_lt most_variables (length (seen (variables_of r)))
 
 abbrev pub is_too_large : ParsedRule → Bool
 is_too_large r = rule_has is_long r || has_wide_atom r || has_large_term r || has_many_parts r

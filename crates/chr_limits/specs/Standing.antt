@@ -1,6 +1,7 @@
 -- What may be in a program and among posts.
 use Rattle.std.specs.Prelude.{◌≡◌, ◌<◌, ◌≤◌, ◌+◌, true, false, List, length, filter}
 use Rattle.std.specs.List.{list_any}
+use Rattle.chr_value.specs.Bounds.{most_comparisons, most_heads, most_items, most_variables}
 use Rattle.chr_lex.specs.Tokens.{Name, Number}
 use Rattle.chr_grammar.specs.Parsed.{Declared, ParsedAtom, ParsedRule}
 use Rattle.chr_limits.specs.Words.{is_out_of_range, is_long, is_variable, phrase_has, rule_has}
@@ -15,10 +16,10 @@ pub record IsAllowedRule (r : ParsedRule) : Type 0 where
   pub names : rule_has is_long r ≡ false
   pub args : has_wide_atom r ≡ false
   pub terms : has_large_term r ≡ false
-  pub heads : length r.kept + length r.removed ≤ 6
-  pub comparisons : length (filter is_comparison r.guard) ≤ 16
-  pub items : length (filter is_item r.body) ≤ 16
-  pub variables : length (seen (variables_of r)) ≤ 24
+  pub heads : length r.kept + length r.removed ≤ most_heads
+  pub comparisons : length (filter is_comparison r.guard) ≤ most_comparisons
+  pub items : length (filter is_item r.body) ≤ most_items
+  pub variables : length (seen (variables_of r)) ≤ most_variables
   pub scoped : is_in_scope r ≡ true
 
 -- names with numbers that may be declared

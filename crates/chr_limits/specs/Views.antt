@@ -1,6 +1,7 @@
 -- Variables that lie in a text, as their bytes.
 use Rattle.std.specs.Prelude.{◌≡◌, ◌<◌, ℕ, List, length, map, Option, MatchOption}
 use Rattle.std.specs.Borrow.{Bor}
+use Rattle.chr_value.specs.Bounds.{most_variables}
 use Rattle.chr_limits.specs.Variables.{seen_from}
 
 abbrev pub names : List (Bor (List ℕ)) → List (List ℕ)
@@ -10,5 +11,5 @@ names = map (λ name. name.now)
 abbrev pub Sees : Option (Unit {0}) → List (Bor (List ℕ)) → List (Bor (List ℕ)) → List (List ℕ) →
     Type 0
 Sees answer before after places =
-    MatchOption answer (24 < length (seen_from (names before) places))
+    MatchOption answer (most_variables < length (seen_from (names before) places))
     (λ _. names after ≡ seen_from (names before) places)

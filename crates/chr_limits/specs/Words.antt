@@ -2,6 +2,7 @@
 -- stands.
 use Rattle.std.specs.Prelude.{ℕ, Bool, true, false, List, length, nat_lt, is_none, ◌||◌, Option, Some, None}
 use Rattle.std.specs.List.{list_any}
+use Rattle.chr_value.specs.Bounds.{most_name_bytes}
 use Rattle.chr_lex.specs.Tokens.{Word, Name, Variable, Number}
 use Rattle.chr_grammar.specs.Parsed as parsed
 use Rattle.chr_grammar.specs.Parsed.{ParsedExpression, ParsedTerm, ParsedAtom, GuardMember, BodyMember, ParsedRule}
@@ -17,8 +18,8 @@ is_out_of_range (Number negative digits) = is_none (whole_number negative digits
 
 -- a name or a variable of more than 64 bytes
 abbrev pub is_long : Word → Bool
-is_long (Name name) = nat_lt 64 (length name)
-is_long (Variable name) = nat_lt 64 (length name)
+is_long (Name name) = nat_lt most_name_bytes (length name)
+is_long (Variable name) = nat_lt most_name_bytes (length name)
 is_long (Number negative digits) = false
 
 abbrev pub is_variable : Word → Bool

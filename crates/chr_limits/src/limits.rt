@@ -1,6 +1,7 @@
 //! What is out of range, too long or too many.
 ghost use Rattle.std.specs.Prelude.{◌≡◌, ◌+◌, length, nat_lt};
 ghost use Rattle.std.specs.Option.{option_map};
+ghost use Rattle.chr_value.specs.Bounds.{most_heads};
 ghost use Rattle.chr_lex.specs.Tokens.{word};
 ghost use Rattle.chr_grammar.specs.Views as by_texts;
 ghost use Rattle.chr_limits.specs.Words.{is_unfit, formula_has, term_has, phrase_has, test_has, member_has, rule_name_has, rule_has};
@@ -206,7 +207,7 @@ pub fn has_wide_atom<A: Allocator>(rule: &ParsedRule<'_, A>) -> bool
 
 /// Whether a rule has more than [`MOST_HEADS`] heads.
 pub fn has_many_heads<A: Allocator>(rule: &ParsedRule<'_, A>) -> bool
-    ensures { result ≡ nat_lt 6 (length (by_texts.raw_rule rule.now).kept + length (by_texts.raw_rule rule.now).removed) }
+    ensures { result ≡ nat_lt most_heads (length (by_texts.raw_rule rule.now).kept + length (by_texts.raw_rule rule.now).removed) }
 {
     let kept = rule.heads.kept.len();
     kept > MOST_HEADS || rule.heads.removed.len() > MOST_HEADS - kept

@@ -1,6 +1,7 @@
 //! Whether each variable has a value where it is used.
 ghost use Rattle.std.specs.Prelude.{◌≡◌, ◌≤◌, ◌&&◌, ◌∷◌, List, length, map, flat_map};
 ghost use Rattle.std.specs.Bool.{OnTrue};
+ghost use Rattle.chr_value.specs.Bounds.{most_variables};
 ghost use Rattle.chr_lex.specs.Tokens.{word};
 ghost use Rattle.chr_grammar.specs.Parsed as parsed;
 ghost use Rattle.chr_grammar.specs.Views as by_texts;
@@ -89,7 +90,7 @@ fn is_guard_seen<A: Allocator>(seen: &[&[u8]], guard: &[GuardMember<'_, A>]) -> 
 /// Whether each variable of a member has a value where it is used, if those of `seen` have one. The variable left of `is`
 /// has one too then.
 fn enter<'a, A: Allocator>(seen: &mut Seen<'a>, member: &BodyMember<'a, A>) -> bool
-    requires { length (seen_from (names seen.old.items) (member_variables (by_texts.member member.now))) ≤ 24 }
+    requires { length (seen_from (names seen.old.items) (member_variables (by_texts.member member.now))) ≤ most_variables }
     ensures scope { (ms : List parsed.BodyMember) → body_in_scope (names seen.old.items) (by_texts.member member.now ∷ ms) ≡ (result && body_in_scope (names seen.new.items) ms) }
     ensures met { OnTrue result (names seen.new.items ≡ seen_from (names seen.old.items) (member_variables (by_texts.member member.now))) }
 {
@@ -108,7 +109,7 @@ fn enter<'a, A: Allocator>(seen: &mut Seen<'a>, member: &BodyMember<'a, A>) -> b
 
 /// Whether each variable of a body has a value where it is used, if those of `seen` have one.
 fn is_body_in_scope<'a, A: Allocator>(seen: &mut Seen<'a>, body: &[BodyMember<'a, A>]) -> bool
-    requires { length (seen_from (names seen.old.items) (flat_map member_variables (map by_texts.member body.now))) ≤ 24 }
+    requires { length (seen_from (names seen.old.items) (flat_map member_variables (map by_texts.member body.now))) ≤ most_variables }
     ensures { result ≡ body_in_scope (names seen.old.items) (map by_texts.member body.now) }
 {
     for member in body {
@@ -121,7 +122,7 @@ fn is_body_in_scope<'a, A: Allocator>(seen: &mut Seen<'a>, body: &[BodyMember<'a
 
 /// Whether each variable of a rule has a value where it is used, and none gets a second one.
 pub fn is_in_scope<A: Allocator>(rule: &ParsedRule<'_, A>) -> bool
-    requires { length (seen (variables_of (by_texts.raw_rule rule.now))) ≤ 24 }
+    requires { length (seen (variables_of (by_texts.raw_rule rule.now))) ≤ most_variables }
     ensures { result ≡ is_in_scope (by_texts.raw_rule rule.now) }
 {
     let Some(mut seen) = head_variables(rule) else {

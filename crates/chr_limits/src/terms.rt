@@ -1,7 +1,7 @@
 //! Terms that are too large.
 ghost use Rattle.std.specs.Prelude.{◌≡◌, map, nat_le};
 ghost use Rattle.chr_grammar.specs.Views as by_texts;
-ghost use Rattle.chr_limits.specs.declared.terms.TheConstants.{MOST_TERM_DEPTH};
+ghost use Rattle.chr_value.specs.Bounds.{most_depth};
 ghost use Rattle.chr_limits.specs.Limits.{arguments_behind, has_wide_functor, is_large_term, has_large_args, compares_large_terms, adds_large_args, has_large_term};
 
 use crate::parts::{Test, any};
@@ -27,7 +27,7 @@ impl<'a> Test<TermNode<'a>> for Deep {
 
     ghost said = { by_texts.node };
 
-    ghost passed = { λ _ n. nat_le MOST_TERM_DEPTH n.depth };
+    ghost passed = { λ _ n. nat_le most_depth n.depth };
 
     fn passes(self, part: &TermNode<'a>) -> bool {
         part.depth >= MOST_TERM_DEPTH

@@ -1,5 +1,6 @@
 //! The variables of a rule, and how many there are.
 ghost use Rattle.std.specs.Prelude.{◌≡◌, ◌<◌, ◌∷◌, [], ℕ, List, length, map, flat_map, nat_lt, MatchOption};
+ghost use Rattle.chr_value.specs.Bounds.{most_variables};
 ghost use Rattle.chr_grammar.specs.Views as by_texts;
 ghost use Rattle.chr_limits.specs.Variables.{word_variables, term_variables, formula_variables, phrase_variables, test_variables, member_variables, head_variables, variables_of, is_blank, is_seen, seen_from, seen};
 ghost use Rattle.chr_limits.specs.Views.{names, Sees};
@@ -65,12 +66,12 @@ trait HasVariables<S> {
 
     /// Adds those that were not seen before. None where there are more than [`MOST_VARIABLES`] then.
     fn add_to(&self, seen: &mut S) -> Option<()>
-        ensures { MatchOption result (24 < length (seen_from (known seen.old) (variables (said self.now)))) (λ _. known seen.new ≡ seen_from (known seen.old) (variables (said self.now))) };
+        ensures { MatchOption result (most_variables < length (seen_from (known seen.old) (variables (said self.now)))) (λ _. known seen.new ≡ seen_from (known seen.old) (variables (said self.now))) };
 }
 
 /// Adds the variables of the parts.
 fn meet_each<S, X: HasVariables<S>>(seen: &mut S, parts: &[X]) -> Option<()>
-    ensures { MatchOption result (24 < length (seen_from (X.known seen.old) (flat_map X.variables (map X.said parts.now)))) (λ _. X.known seen.new ≡ seen_from (X.known seen.old) (flat_map X.variables (map X.said parts.now))) }
+    ensures { MatchOption result (most_variables < length (seen_from (X.known seen.old) (flat_map X.variables (map X.said parts.now)))) (λ _. X.known seen.new ≡ seen_from (X.known seen.old) (flat_map X.variables (map X.said parts.now))) }
 {
     for part in parts {
         part.add_to(seen)?;
@@ -203,7 +204,7 @@ impl<'a, A: Allocator> HasVariables<Seen<'a>> for BodyMember<'a, A> {
 /// The variables of the heads, or None where there are more than [`MOST_VARIABLES`].
 #[tactic(auto, using(crate::proofs::Meeting::met_from_append, crate::proofs::Meeting::short_more))]
 pub(crate) fn head_variables<'a, A: Allocator>(rule: &ParsedRule<'a, A>) -> Option<Seen<'a>>
-    ensures { MatchOption result (24 < length (seen (head_variables (by_texts.raw_rule rule.now)))) (λ known. names known.items ≡ seen (head_variables (by_texts.raw_rule rule.now))) }
+    ensures { MatchOption result (most_variables < length (seen (head_variables (by_texts.raw_rule rule.now)))) (λ known. names known.items ≡ seen (head_variables (by_texts.raw_rule rule.now))) }
 {
     let mut seen = Seen::new();
     meet_each(&mut seen, &rule.heads.kept)?;
@@ -214,7 +215,7 @@ pub(crate) fn head_variables<'a, A: Allocator>(rule: &ParsedRule<'a, A>) -> Opti
 /// Whether a rule has more than [`MOST_VARIABLES`] variables.
 #[tactic(auto, using(crate::proofs::Meeting::met_from_append, crate::proofs::Meeting::short_more))]
 pub(crate) fn has_many_variables<A: Allocator>(rule: &ParsedRule<'_, A>) -> bool
-    ensures { result ≡ nat_lt 24 (length (seen (variables_of (by_texts.raw_rule rule.now)))) }
+    ensures { result ≡ nat_lt most_variables (length (seen (variables_of (by_texts.raw_rule rule.now)))) }
 {
     let Some(mut seen) = head_variables(rule) else {
         return true;

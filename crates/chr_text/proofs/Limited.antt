@@ -358,7 +358,7 @@ all_inside : {N : Type 0} (P : Term N → Type 0) (d : ℕ) (ts : List (Placed N
 all_inside P d [] all = tt
 all_inside P d (t ∷ ts) all = front_elim (λ us vs. AllByRecursion P us) d t ts (λ lt. (all.0, all_inside P d ts all.1)) (λ le. tt)
 
-few_inside : {N : Type 0} (w : Placed N) (ws : List (Placed N)) → AreBehind w ws → one_deeper w.0 ws ≤ 8 → length (inside w.0 (terms_of_words ws)) ≤ 8
+pub few_inside : {N : Type 0} (w : Placed N) (ws : List (Placed N)) → AreBehind w ws → one_deeper w.0 ws ≤ 8 → length (inside w.0 (terms_of_words ws)) ≤ 8
 few_inside w ws all few = let e = inside_count w.0 (terms_of_words ws) (terms_fall w ws all) ∙ words_deeper w.0 ws in rw e few
 
 terms_all : {N : Type 0} (P Q : Term N → Type 0) → Holds P Q → (w : Placed N) (ws : List (Placed N)) → AreBehind w ws → AreNarrow ws → AllByRecursion (λ v. Q v.1) ws → AllByRecursion (λ t. P t.1) (terms_of_words ws)

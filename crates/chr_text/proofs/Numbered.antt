@@ -1,17 +1,18 @@
 -- The words of a term that are numbered make the numbered term; the parts of a rule, and terms that are built.
-use Rattle.std.proofs.Common.{◌≡◌, ℕ, suc, Bool, true, false, ltb, ◌||◌, List, [], ◌∷◌, ◌++◌, Option, Some, None, Ok, refl, sym, ap, ap₂, subst, ◌∙◌, ◌≤◌, length, ◌<◌, ◌+◌, get_or, drop, map, reverse, append_assoc, Box, arith}
+use Rattle.std.proofs.Common.{◌≡◌, ℕ, zero, suc, Bool, true, false, ltb, ◌||◌, List, [], ◌∷◌, ◌++◌, Option, Some, None, Ok, refl, sym, ap, ap₂, subst, ◌∙◌, ◌≤◌, length, ◌<◌, ◌+◌, get_or, drop, map, reverse, append_assoc, Box, arith}
 use Rattle.std.specs.List.{list_any}
 use Rattle.chr_lex.specs.declared.fault.ItemError.{ItemError}
 use Rattle.chr_lex.specs.Reading.{Fails}
 use Rattle.chr_value.specs.Atoms.{Value, Int, Sym, Comp, Args, Nil, Cons, args_of, grounds}
+use Rattle.chr_value.specs.Bounds.{most_arguments}
 use Rattle.chr_value.specs.Naming.{◌>>=◌, Table, number_name, numbered_value, numbered_args}
 use Rattle.chr_value.proofs.Chosen.{bind_some, some_is}
 use Rattle.chr_rule.specs.Rules.{Term, Var, Given, Open, Terms, End, And, terms_of, RuleAtom, Comparison, BodyItem, Simpagation, of_parts}
 use Rattle.chr_rule.specs.Terms.{is_open}
-use Rattle.chr_text.specs.Terms.{Placed, inside, behind, values, functor_with, with_args, terms_of_words, term_of_words, value_words, args_words, words_of, terms_words, first_of}
+use Rattle.chr_text.specs.Terms.{Placed, inside, behind, values, functor_with, with_args, terms_of_words, term_of_words, TakeFew, value_words, args_words, words_of, terms_words, first_of}
 use Rattle.chr_text.specs.Numbering.{or_full, each, numbered_term, numbered_terms, numbered_word, numbered_rule_atom, number_test, number_member, number_rule}
 use Rattle.chr_text.proofs.Lists.{IfThere, there, if_there, then_there, numbered_is, fails_as, uncons, each_end, fails_then, each_some, given_somes, given_seen, map_at}
-use Rattle.chr_text.proofs.Limited.{IsWord, can_open, AreBehind, AreWords, none_inside, none_behind, term_again}
+use Rattle.chr_text.proofs.Limited.{IsWord, can_open, AreBehind, AreWords, AreNarrow, none_inside, none_behind, few_inside, term_again}
 use Rattle.chr_text.proofs.Said.{argument_by, argument_says, rule_stays, rule_says}
 use Rattle.std.proofs.lemmas.List.{length-map, append-nil, map_push, reverse-append, nil_from_length}
 use Rattle.std.specs.Borrow.{Bor}
@@ -221,6 +222,33 @@ term_fails error table ws all h =
     fails_as error (each numbered_word table ws) (numbered_term table (term_of_words ws))
     (λ x e. (_, ap (each numbered_word table) (sym (term_again ws all)) ∙ there _ (numbered_term table (term_of_words ws)) x (term_numbers table 0 (term_of_words ws)) e)) h
 
+-- ---- words take as few terms as before
+
+-- as many as there were
+pub each_count : {A B : Type 0} (f : Table → A → Option (B × Table)) (table new : Table) (as' : List A) (ys : List B) → each f table as' ≡ Some (ys, new) → length ys ≡ length as'
+each_count f table new [] ys h = ap length (sym (each_end f table new ys h).0)
+each_count f table new (a ∷ as') ys h = let u = uncons f table new a as' ys h in ap length (sym u.4) ∙ ap suc (each_count f u.0.1 new as' u.1 u.3)
+
+few_taken : (table new : Table) (w : Placed (List ℕ)) (ws : List (Placed (List ℕ))) (xs : List (Placed ℕ)) → AreBehind w ws → AreNarrow (w ∷ ws) → each numbered_word table ws ≡ Some (xs, new) → length (inside w.0 (terms_of_words xs)) ≤ most_arguments
+few_taken table new w ws xs all narrow h =
+    let s = split w.0 table new (terms_of_words ws) (terms_of_words xs) (words_made w ws all table new xs h) in
+    rw (each_count numbered_term table s.0 (inside w.0 (terms_of_words ws)) (inside w.0 (terms_of_words xs)) s.1) (few_inside w ws all narrow.0)
+
+few_behind : (w : Placed (List ℕ)) (ws : List (Placed (List ℕ))) → AreBehind w ws → AreNarrow ws → (table new : Table) (xs : List (Placed ℕ)) → each numbered_word table ws ≡ Some (xs, new) → TakeFew xs
+few_behind w [] all narrow table new xs h = subst TakeFew (each_end numbered_word table new xs h).0 tt
+few_behind w (v ∷ ws) all narrow table new xs h =
+    let u = word_first table new v ws xs h in
+    subst TakeFew u.4 (few_taken u.0.1 new v ws u.1 all.1 narrow u.3, few_behind v ws all.1 narrow.1 u.0.1 new u.1 u.3)
+
+-- the words of a term within the limits that are numbered
+pub take_few : (table new : Table) (ws : List (Placed (List ℕ))) (xs : List (Placed ℕ)) → AreWords ws → AreNarrow ws → or_full (each numbered_word table ws) ≡ Ok (xs, new) → TakeFew xs
+take_few table new [] xs all narrow h = absurd all
+take_few table new (w ∷ ws) xs all narrow h =
+    let u = word_first table new w ws xs (numbered_is (each numbered_word table (w ∷ ws)) (xs, new) h) in
+    subst TakeFew u.4 (few_taken u.0.1 new w ws u.1 all.2 narrow u.3, few_behind w ws all.2 narrow.1 u.0.1 new u.1 u.3)
+
+-- ---- parts
+
 -- a part that was numbered, and the variables that were seen by then
 pub record Done {A B C : Type 0} (number : Table → List B → Option (List C × Table)) (g : Seen → A → B × Seen) (start : Seen) (xs : List A) (table : Table) (made : List C) (new : Table) (after : Seen) : Type 0 where
   pub is : number table (in_turn g start xs).0 ≡ Some (made, new)
@@ -249,11 +277,6 @@ pub given_fails : {A B C : Type 0} (f : Table → B → Option (C × Table)) (g 
     → {seen start : Seen} {xs ys : List A} → seen ≡ start → xs ≡ ys → Fails error (or_full (each_some f table (in_turn (given g) seen xs).0)) → Fails error (or_full (each f table (in_turn g start ys).0))
 given_fails f g error table {seen = seen} {start = start} {xs = xs} e h n =
     subst (λ l. Fails error (or_full (each f table l))) (given_somes g seen xs ∙ ap (λ s. (in_turn g s xs).0) e ∙ ap (λ l. (in_turn g start l).0) h) n
-
--- as many as there were
-pub each_count : {A B : Type 0} (f : Table → A → Option (B × Table)) (table new : Table) (as' : List A) (ys : List B) → each f table as' ≡ Some (ys, new) → length ys ≡ length as'
-each_count f table new [] ys h = ap length (sym (each_end f table new ys h).0)
-each_count f table new (a ∷ as') ys h = let u = uncons f table new a as' ys h in ap length (sym u.4) ∙ ap suc (each_count f u.0.1 new as' u.1 u.3)
 
 pub kept_fails : (error : ItemError) (table : Table) (r : Simpagation (List ℕ)) → Fails error (or_full (each numbered_rule_atom table r.kept)) → Fails error (or_full (number_rule table r))
 kept_fails error table r h = fails_then error (each numbered_rule_atom table r.kept) (λ kept. each numbered_rule_atom kept.1 r.removed >>= λ removed. each number_test removed.1 r.guard >>= λ guard. each number_member guard.1 r.body >>= λ body. Some (of_parts r.variables kept.0 removed.0 guard.0 body.0, body.1)) h
@@ -302,10 +325,16 @@ all_values made ts total empty so_far = rw (nil_from_length ts empty, append-nil
 
 -- ---- a functor with its arguments
 
-pub value_made : {A : Type 0} (b : Box (CodeComp A) A) (n : ℕ) (ts : List (Term ℕ)) → b.value.functor.number ≡ n → grounds b.value.args.items ≡ values ts → list_any is_open ts ≡ false
+pub value_made : {A : Type 0} (b : Box (CodeComp A) A) (n : ℕ) (ts : List (Term ℕ)) → b.value.functor.number ≡ n → grounds b.value.args.list.items ≡ values ts → list_any is_open ts ≡ false
     → argument (terms.Given (values_of_code.Comp b)) ≡ functor_with n ts
 value_made b n ts named are none =
     argument-Given (values_of_code.Comp b) ∙ ap (λ v. Given v) (ground-Comp b) ∙ ap₂ (λ (f : ℕ) vs. Given (Comp f (args_of vs))) named are ∙ sym (functor_with-values n ts none)
+
+-- values are as many as the terms that are values
+pub values_count : {N : Type 0} (ts : List (Term N)) → list_any is_open ts ≡ false → length (values ts) ≡ length ts
+values_count [] none = refl
+values_count (Given v ∷ ts) none = ap suc (values_count ts none)
+values_count (_ ∷ ts) none = absurd cc
 
 -- ---- a word with its arguments
 
@@ -344,6 +373,18 @@ word_built words i place d stack left new args top next within so_far taken rest
     let split : map placed_word (drop i words) ≡ placed_word w ∷ behind_it = map_at placed_word words i d (omega arith) ∙ ap (λ (k : ℕ). placed_word w ∷ map placed_word (drop k words)) next in
     let one : placed top ≡ (w.depth, with_args (word_term w.word) (inside w.depth (terms_of_words behind_it))) = ap₂ (λ (n : ℕ) (t : Term ℕ). (n, t)) deep (made ∙ ap (with_args (word_term w.word)) (taken ∙ ap (inside w.depth) so_far)) in
     top_first new left top grows ∙ ap₂ (λ (t : Placed ℕ) ts. t ∷ ts) one (rest ∙ ap (behind w.depth) so_far) ∙ ap terms_of_words (sym split)
+
+few_at : (words : List NumberedNode) (i : ℕ) (d : NumberedNode) → i < length words → TakeFew (map placed_word words) → length (inside (get_or words i d).depth (terms_of_words (map placed_word (drop (suc i) words)))) ≤ most_arguments
+few_at [] i d lt few = absurd (omega arith)
+few_at (w ∷ words) zero d lt few = few.0
+few_at (w ∷ words) (suc i) d lt few = few_at words i d (omega arith) few.1
+
+-- the word at a place takes few terms from the stack
+pub args_few : {A : Type 0} (words : List NumberedNode) (i place : ℕ) (d : NumberedNode) (stack : List (PlacedTerm A)) (args : List (CodeTerm A)) → suc i ≡ place → place ≤ length words → TakeFew (map placed_word words) → from_top stack ≡ terms_of_words (map placed_word (drop place words))
+    → map argument args ≡ inside (get_or words i d).depth (from_top stack) → length args ≤ most_arguments
+args_few words i place d stack args next within few so_far taken =
+    let there : map argument args ≡ inside (get_or words i d).depth (terms_of_words (map placed_word (drop (suc i) words))) = taken ∙ ap (inside (get_or words i d).depth) (so_far ∙ ap (λ (k : ℕ). terms_of_words (map placed_word (drop k words))) (sym next)) in
+    omega (arith, few_at words i d (omega arith) few, ap length there, length-map args argument)
 
 -- ---- what is taken from a stack
 

@@ -106,7 +106,7 @@ never_open table new seen p t empty fits gives =
 pub never_functor : {A : Type 0} (table new : Table) (seen : Seen) (p : ParsedTerm) (term : CodeTerm A) (o : Box (CodeOpen A) A) → seen ≡ [] → ValueFits p → term ≡ terms.Open o → or_full (numbered_term table (argument seen p).0) ≡ Ok (argument_of term, new) → ⊥
 never_functor table new seen p term o empty fits is gives =
     let shut = never_open table new seen p (argument_of term) empty fits gives in
-    let opens : is_open (argument_of term) ≡ true = ap is_open (argument-parts term o o.value.args.items is refl) in
+    let opens : is_open (argument_of term) ≡ true = ap is_open (argument-parts term o o.value.args.list.items is refl) in
     absurd (true≢false (sym opens ∙ shut))
 
 -- ---- values within the limits

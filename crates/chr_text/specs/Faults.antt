@@ -1,6 +1,7 @@
 -- The first fault of a text.
 use Rattle.std.specs.Prelude.{◌≡◌, ℕ, ◌<◌, ◌≤◌, ◌⊎◌, true, false, List, [], ◌∷◌, map, length, None}
 use Rattle.std.specs.List.{list_any}
+use Rattle.chr_value.specs.Bounds.{most_rules, most_text_bytes}
 use Rattle.chr_lex.specs.declared.fault.Kind.{Kind}
 use Rattle.chr_lex.specs.declared.fault.Kind.TheVariants.{TooLong, BadByte, Syntax, Propagation, NumberRange, TooMany, Binding, NamesFull}
 use Rattle.chr_lex.specs.declared.fault.ReadFault.{ReadFault}
@@ -40,7 +41,7 @@ pub record IsFirst (Has : Kind → Type 0) (k : Kind) : Type 0 where
 abbrev pub RuleHas : Program → ParsedRule → Kind → Type 0
 RuleHas before r Propagation = r.removed ≡ []
 RuleHas before r NumberRange = rule_has is_out_of_range r ≡ true
-RuleHas before r TooMany = (256 ≤ length before.0) ⊎ (is_too_large r ≡ true)
+RuleHas before r TooMany = (most_rules ≤ length before.0) ⊎ (is_too_large r ≡ true)
 RuleHas before r Binding = is_in_scope r ≡ false
 RuleHas before r NamesFull = number_rule before.1 (rule r) ≡ None
 RuleHas before r _ = ⊥
@@ -96,9 +97,9 @@ pub data FirstFault {A : Type 0} (AddsItem : A → Item → A → Type 0) (Has :
 -- at its line.
 pub data IsFault {A : Type 0} (AddsItem : A → Item → A → Type 0) (Has : A → Item → Kind → Type 0)
     (before : A) (bytes : List ℕ) : ReadFault → Type 0 where
-  too_long : 65536 < length bytes →
+  too_long : most_text_bytes < length bytes →
       IsFault AddsItem Has before bytes (record { kind = TooLong; line = 0 })
-  in_item : (es : List Item) (f : ReadFault) → length bytes ≤ 65536 → HasItems bytes es →
+  in_item : (es : List Item) (f : ReadFault) → length bytes ≤ most_text_bytes → HasItems bytes es →
       FirstFault AddsItem Has before es f → IsFault AddsItem Has before bytes f
 
 -- The text is no program over a table of names, and this is its first fault.

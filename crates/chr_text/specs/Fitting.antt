@@ -1,6 +1,7 @@
 -- What may be numbered: names that a log can hold, and numbers of 64 bits with sign.
 use Rattle.std.specs.Prelude.{◌≡◌, ℕ, ◌≤◌, true, false, List, length, is_none}
 use Rattle.std.specs.List.{list_all, AllByRecursion}
+use Rattle.chr_value.specs.Bounds.{most_arguments, most_variables}
 use Rattle.chr_value.specs.Spelling.{is_name_byte, begins_lower, is_operator, IsName}
 use Rattle.chr_lex.specs.Tokens.{Word, Name, Variable, Number}
 use Rattle.chr_grammar.specs.Parsed as parsed
@@ -36,7 +37,7 @@ pub record ValueFits (t : ParsedTerm) : Type 0 where
 pub record PostFits (p : ParsedAtom) : Type 0 where
   pub name : IsName p.name
   pub args : AllByRecursion ValueFits p.args
-  pub few : length p.args ≤ 8
+  pub few : length p.args ≤ most_arguments
 
 abbrev pub FormulaFits : parsed.ParsedExpression → Type 0
 FormulaFits (parsed.Number negative ds) = is_none (whole_number negative ds) ≡ false
@@ -47,7 +48,7 @@ FormulaFits (parsed.Operation o a b) = FormulaFits a × FormulaFits b
 -- the same with room for its variables after those seen before it
 abbrev pub ExpressionFits : Seen → parsed.ParsedExpression → Type 0
 ExpressionFits seen (parsed.Number negative ds) = is_none (whole_number negative ds) ≡ false
-ExpressionFits seen (parsed.Variable x) = length (number_variable seen x).1 ≤ 24
+ExpressionFits seen (parsed.Variable x) = length (number_variable seen x).1 ≤ most_variables
 ExpressionFits seen (parsed.Group e) = ExpressionFits seen e
 ExpressionFits seen (parsed.Operation o a b) =
     ExpressionFits seen a × ExpressionFits (expression seen a).1 b
@@ -56,7 +57,7 @@ ExpressionFits seen (parsed.Operation o a b) =
 pub record ShapeFits (p : ParsedAtom) : Type 0 where
   pub name : IsName p.name
   pub args : AllByRecursion TermFits p.args
-  pub few : length p.args ≤ 8
+  pub few : length p.args ≤ most_arguments
 
 abbrev pub TestFits : GuardMember → Type 0
 TestFits parsed.Always = Unit {0}
@@ -75,7 +76,7 @@ pub record RuleFits (r : ParsedRule) : Type 0 where
   pub removed : AllByRecursion ShapeFits r.removed
   pub guard : AllByRecursion TestFits r.guard
   pub body : AllByRecursion MemberFits r.body
-  pub room : length (after_body r) ≤ 24
+  pub room : length (after_body r) ≤ most_variables
   pub valid : IsRule (rule r)
 
 -- ---- names as tokens have them, however long

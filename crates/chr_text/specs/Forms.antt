@@ -6,6 +6,7 @@ use Rattle.chr_lex.specs.Cutting.{HasItems}
 use Rattle.chr_lex.specs.Tokens.{Lexeme}
 use Rattle.chr_lex.specs.Lexing.{Tokens}
 use Rattle.chr_value.specs.Atoms.{Atom}
+use Rattle.chr_value.specs.Bounds.{most_rules, most_text_bytes}
 use Rattle.chr_value.specs.Naming.{Table, numbered_atom}
 use Rattle.chr_rule.specs.Rules.{Simpagation}
 use Rattle.chr_grammar.specs.Parsed.{ParsedAtom, ParsedRule, Statement, Import, Declaration, Rule}
@@ -32,7 +33,7 @@ pub data InOrder {A : Type 0} (AddsItem : A → Item → A → Type 0) : A → L
 -- a text that is not too long, whose items give this together
 pub record IsText {A : Type 0} (AddsItem : A → Item → A → Type 0) (before : A) (bytes : List ℕ)
     (after : A) : Type 0 where
-  pub short : length bytes ≤ 65536
+  pub short : length bytes ≤ most_text_bytes
   pub entries : List Item
   pub has : HasItems bytes entries
   pub in_order : InOrder AddsItem before entries after
@@ -41,7 +42,7 @@ pub record IsText {A : Type 0} (AddsItem : A → Item → A → Type 0) (before 
 
 -- A rule that may stand is put after the ones before it, where these are fewer than 256.
 pub record AddsRule (before : Program) (r : ParsedRule) (after : Program) : Type 0 where
-  pub room : length before.0 < 256
+  pub room : length before.0 < most_rules
   pub stands : IsAllowedRule r
   pub new : Simpagation ℕ
   pub table : Table

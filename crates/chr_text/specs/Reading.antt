@@ -8,6 +8,7 @@ use Rattle.chr_lex.specs.Items.{Item, items_of}
 use Rattle.chr_lex.specs.Tokens.{Lexeme, tokens_of}
 use Rattle.chr_lex.specs.Reading.{◌>>=◌, at_line}
 use Rattle.chr_value.specs.Atoms.{Atom}
+use Rattle.chr_value.specs.Bounds.{most_rules, most_text_bytes}
 use Rattle.chr_value.specs.Naming.{Table, numbered_atom}
 use Rattle.chr_rule.specs.Rules.{Simpagation}
 use Rattle.chr_grammar.specs.Parsed as parsed
@@ -31,7 +32,7 @@ over_items f so_far (e ∷ es) = at_line e.line (f so_far e) >>= λ next. over_i
 -- nothing, where the text is too long; else what f gives
 abbrev pub of_text : {A : Type 0} → (A → Item → Result A Kind) → A → List ℕ → Result A ReadFault
 of_text f before bytes =
-    if nat_lt 65536 (length bytes) then Err (record { kind = TooLong; line = 0 })
+    if nat_lt most_text_bytes (length bytes) then Err (record { kind = TooLong; line = 0 })
     else over_items f before (items_of bytes)
 
 -- ---- programs
@@ -42,7 +43,7 @@ Program = List (Simpagation ℕ) × Table
 
 abbrev pub with_rule : Program → parsed.ParsedRule → Result Program Kind
 with_rule so_far r =
-    rule_judged (nat_le 256 (length so_far.0)) r
+    rule_judged (nat_le most_rules (length so_far.0)) r
     >>= λ judged. or_full (number_rule so_far.1 (rule r)) >>= λ x. Ok (so_far.0 ++ x.0 ∷ [], x.1)
 
 -- Only a rule adds to a program.

@@ -1,8 +1,9 @@
 -- A term from its words in text order, each with how many parentheses it stands in, and the words
 -- of a term.
-use Rattle.std.specs.Prelude.{ℕ, suc, List, [], ◌∷◌, ◌++◌, nat_lt, if◌then◌else◌}
+use Rattle.std.specs.Prelude.{ℕ, suc, ◌≤◌, List, [], ◌∷◌, ◌++◌, length, nat_lt, if◌then◌else◌}
 use Rattle.std.specs.List.{list_any}
 use Rattle.chr_value.specs.Atoms.{Value, Int, Sym, Comp, Args, Nil, Cons, args_of}
+use Rattle.chr_value.specs.Bounds.{most_arguments}
 use Rattle.chr_rule.specs.Rules.{Term, Var, Given, Open, Terms, End, And, terms_of}
 use Rattle.chr_rule.specs.Terms.{is_open}
 
@@ -43,6 +44,11 @@ abbrev pub terms_of_words : {N : Type 0} → List (Placed N) → List (Placed N)
 terms_of_words [] = []
 terms_of_words (w ∷ ws) =
     (w.0, with_args w.1 (inside w.0 (terms_of_words ws))) ∷ behind w.0 (terms_of_words ws)
+
+-- each word takes at most most_arguments terms
+abbrev pub TakeFew : {N : Type 0} → List (Placed N) → Type 0
+TakeFew [] = Unit {0}
+TakeFew (w ∷ ws) = (length (inside w.0 (terms_of_words ws)) ≤ most_arguments) × TakeFew ws
 
 abbrev pub first_of : {N : Type 0} → List (Placed N) → Term N
 first_of [] = Var 0

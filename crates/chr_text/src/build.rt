@@ -1,5 +1,6 @@
 //! Rules from what is written: names and variables get their numbers.
 ghost use Rattle.std.specs.Prelude.{◌≡◌, ◌≤◌, ◌∷◌, ℕ, List, [], length, IfOk, OnOk};
+ghost use Rattle.chr_value.specs.Bounds.{most_variables};
 ghost use Rattle.chr_lex.specs.Reading.{Gives};
 ghost use Rattle.chr_grammar.specs.Views as by_texts;
 ghost use Rattle.chr_limits.specs.Views.{names as texts};
@@ -92,7 +93,7 @@ fn number_pair<'a, A: Allocator + Copy>(
 ) -> Result<(Term<A>, Term<A>), ItemError>
     requires left_fits { TermFits (by_texts.term left.now) }
     requires right_fits { TermFits (by_texts.term right.now) }
-    requires room { length (in_turn raw.argument (texts seen.old.items) (by_texts.term left.now ∷ by_texts.term right.now ∷ [])).1 ≤ 24 }
+    requires room { length (in_turn raw.argument (texts seen.old.items) (by_texts.term left.now ∷ by_texts.term right.now ∷ [])).1 ≤ most_variables }
     ensures gives { Gives (λ p. (argument p.0 ∷ argument p.1 ∷ [], names.new)) result (or_full (each numbering.numbered_term names.old (in_turn raw.argument (texts seen.old.items) (by_texts.term left.now ∷ by_texts.term right.now ∷ [])).0)) }
     ensures seen { OnOk result (texts seen.new.items ≡ (in_turn raw.argument (texts seen.old.items) (by_texts.term left.now ∷ by_texts.term right.now ∷ [])).1) }
     ensures keeps { (t : Table) → Keeps t names.old → Keeps t names.new }

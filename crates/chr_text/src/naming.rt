@@ -1,5 +1,6 @@
 //! The numbers of names that lie in a text.
 ghost use Rattle.std.specs.Prelude.{◌≡◌, ◌↔◌, true, false, length, Err, IsOk};
+ghost use Rattle.chr_value.specs.Bounds.{most_names};
 ghost use Rattle.chr_lex.specs.Reading.{Gives};
 ghost use Rattle.chr_lex.specs.declared.fault.ItemError.TheVariants.{Fault};
 ghost use Rattle.chr_lex.specs.declared.fault.Kind.TheVariants.{NamesFull};
@@ -23,7 +24,7 @@ pub fn number_name<A: Allocator + Copy>(
 ) -> Result<Name, ItemError>
     requires { IsName name.now }
     ensures gives { Gives (λ n. (n.number, names.new)) result (or_full (number_of names.old name.now)) }
-    ensures full { (result ≡ Err (Fault NamesFull)) ↔ ((length names.old ≡ 65536) × (has_text names.old name.now ≡ false)) }
+    ensures full { (result ≡ Err (Fault NamesFull)) ↔ ((length names.old ≡ most_names) × (has_text names.old name.now ≡ false)) }
     ensures finds { has_text names.old name.now ≡ true → IsOk result }
     ensures keeps { (t : Table) → Keeps t names.old → Keeps t names.new }
 {

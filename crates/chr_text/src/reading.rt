@@ -8,6 +8,7 @@ ghost use Rattle.chr_text.specs.Reading.{item_lexemes, over_items, of_text, with
 ghost use Rattle.chr_lex.specs.declared.fault.Kind.{Kind as FaultKind};
 ghost use Rattle.chr_lex.specs.declared.fault.Kind.TheVariants.{TooLong};
 ghost use Rattle.chr_value.specs.Atoms.{Atom as AtomOf};
+ghost use Rattle.chr_value.specs.Bounds.{most_text_bytes};
 ghost use Rattle.chr_rule.specs.Rules.{Simpagation};
 ghost use Rattle.chr_lex.specs.declared.fault.ReadError.TheVariants as errors;
 ghost use Rattle.chr_grammar.specs.Views as by_texts;
@@ -132,7 +133,7 @@ fn add_items<S: Items<A>, A: Allocator + Copy>(
     mut so_far: S,
     text: &[u8],
 ) -> Result<S, ReadError>
-    requires { length text.now ≤ 65536 }
+    requires { length text.now ≤ most_text_bytes }
     ensures reads { Reads (λ made. (S.said made, names.new)) result (over_items S.with (S.said so_far, names.old) (items zero 1 text.now)) }
     ensures keeps { (t : Table) → Keeps t names.old → Keeps t names.new }
 {
@@ -162,7 +163,7 @@ fn read_text<S: Items<A>, A: Allocator + Copy>(
     so_far: S,
 ) -> Result<S, ReadError>
     ensures reads { Reads (λ made. (S.said made, names.new)) result (of_text S.with (S.said so_far, names.old) bytes.now) }
-    ensures too_long { 65536 < length bytes.now → result ≡ Err (errors.Fault (record { kind = TooLong; line = 0 })) }
+    ensures too_long { most_text_bytes < length bytes.now → result ≡ Err (errors.Fault (record { kind = TooLong; line = 0 })) }
     ensures unchanged { OnErr result (names.new ≡ names.old) }
     ensures keeps { take (length names.old) names.new ≡ names.old }
 {
@@ -193,7 +194,7 @@ pub fn read_program<A: Allocator + Copy>(
     names: &mut Names<A>,
 ) -> Result<Program<A>, ReadError>
     ensures reads { Reads (λ p. (p, names.new)) result (program_of names.old bytes.now) }
-    ensures too_long { 65536 < length bytes.now → result ≡ Err (errors.Fault (record { kind = TooLong; line = 0 })) }
+    ensures too_long { most_text_bytes < length bytes.now → result ≡ Err (errors.Fault (record { kind = TooLong; line = 0 })) }
     ensures unchanged { OnErr result (names.new ≡ names.old) }
     ensures keeps { take (length names.old) names.new ≡ names.old }
 {
@@ -209,7 +210,7 @@ pub fn read_atoms<A: Allocator + Copy>(
     names: &mut Names<A>,
 ) -> Result<Vec<Atom<A>, A>, ReadError>
     ensures reads { Reads (λ v. (v.items, names.new)) result (posts_of names.old bytes.now) }
-    ensures too_long { 65536 < length bytes.now → result ≡ Err (errors.Fault (record { kind = TooLong; line = 0 })) }
+    ensures too_long { most_text_bytes < length bytes.now → result ≡ Err (errors.Fault (record { kind = TooLong; line = 0 })) }
     ensures unchanged { OnErr result (names.new ≡ names.old) }
     ensures keeps { take (length names.old) names.new ≡ names.old }
 {

@@ -1,5 +1,6 @@
 //! Terms from what is written: names and variables get their numbers.
 ghost use Rattle.std.specs.Prelude.{◌≡◌, ◌≤◌, length, OnOk};
+ghost use Rattle.chr_value.specs.Bounds.{most_variables};
 ghost use Rattle.chr_lex.specs.Reading.{Gives};
 ghost use Rattle.chr_grammar.specs.Views as by_texts;
 ghost use Rattle.chr_limits.specs.Views.{names as texts};
@@ -26,7 +27,7 @@ pub fn number_term<'a, A: Allocator + Copy>(
     term: &ParsedTerm<'a, A>,
 ) -> Result<Term<A>, ItemError>
     requires fits { TermFits (by_texts.term term.now) }
-    requires room { length (raw.argument (texts seen.old.items) (by_texts.term term.now)).1 ≤ 24 }
+    requires room { length (raw.argument (texts seen.old.items) (by_texts.term term.now)).1 ≤ most_variables }
     ensures gives { Gives (λ t. (argument t, names.new)) result (or_full (numbered_term names.old (raw.argument (texts seen.old.items) (by_texts.term term.now)).0)) }
     ensures seen { OnOk result (texts seen.new.items ≡ (raw.argument (texts seen.old.items) (by_texts.term term.now)).1) }
     ensures keeps { (t : Table) → Keeps t names.old → Keeps t names.new }

@@ -1,16 +1,17 @@
 //! Terms from their numbered words.
-ghost use Rattle.std.specs.Prelude.{◌≡◌, ◌++◌, ◌∷◌, [], map, IfOk, OnOk};
+ghost use Rattle.std.specs.Prelude.{◌≡◌, ◌≤◌, ◌++◌, ◌∷◌, [], map, vec_len, IfOk, OnOk};
 ghost use Rattle.std.specs.List.{list_any};
 ghost use Rattle.chr_value.specs.Atoms.{grounds};
+ghost use Rattle.chr_value.specs.Bounds.{most_arguments};
 ghost use Rattle.chr_rule.specs.Parts.{argument};
 ghost use Rattle.chr_rule.specs.Terms.{is_open};
-ghost use Rattle.chr_text.specs.Terms.{inside, behind, values, functor_with, with_args, term_of_words};
+ghost use Rattle.chr_text.specs.Terms.{inside, behind, values, functor_with, with_args, term_of_words, TakeFew};
 ghost use Rattle.chr_text.specs.Trees.{is_deeper, from_top};
 ghost use Rattle.chr_text.specs.Words.{word_term, placed_word};
 
 use crate::words::{NumberedNode, NumberedWord};
 use chr_rule::{Open, Term};
-use chr_value::{Comp, Name, Value};
+use chr_value::{Arguments, Comp, Name, Value};
 use std::alloc::{AllocError, Allocator};
 
 /// A term that is built.
@@ -80,27 +81,31 @@ fn values<A: Allocator + Copy>(
     Ok(made)
 }
 
-/// A functor with its arguments, which is a value where these are. An `Err` is E01.
+/// Makes a functor with its one to eight arguments: a value where each of these is one. An `Err` is E01.
 fn functor_with<A: Allocator + Copy>(
     alloc: A,
     functor: Name,
     args: Vec<Term<A>, A>,
 ) -> Result<Term<A>, AllocError>
+    requires some { 1 ≤ vec_len args }
+    requires few { vec_len args ≤ most_arguments }
     ensures { IfOk result (λ made. argument made ≡ functor_with functor.number (map argument args.items)) }
 {
     if any_open(&args) {
+        let args = Arguments::new(args);
         return Ok(Term::Open(Box::new(alloc, Open { functor, args })?));
     }
-    let args = values(alloc, args)?;
+    let args = Arguments::new(values(alloc, args)?);
     Ok(Term::Given(Value::Comp(Box::new(alloc, Comp { functor, args })?)))
 }
 
-/// A word with its arguments, of which only a name has some. An `Err` is E01.
+/// Gives a word its arguments, at most eight. Only a name has some. An `Err` is E01.
 fn with_args<A: Allocator + Copy>(
     alloc: A,
     word: NumberedWord,
     args: Vec<Term<A>, A>,
 ) -> Result<Term<A>, AllocError>
+    requires { vec_len args ≤ most_arguments }
     ensures { IfOk result (λ made. argument made ≡ with_args (word_term word) (map argument args.items)) }
 {
     if args.is_empty() {
@@ -141,11 +146,12 @@ fn take_inside<A: Allocator + Copy>(
     Ok(terms)
 }
 
-/// The term of these words, which are taken from the last one to the first. A word alone takes no memory. An `Err` is E01.
+/// Builds the term of these words from the last one to the first. A word alone takes no memory. An `Err` is E01.
 pub fn build_term<A: Allocator + Copy>(
     alloc: A,
     words: &[NumberedNode],
 ) -> Result<Term<A>, AllocError>
+    requires { TakeFew (map placed_word words.now) }
     ensures { IfOk result (λ made. argument made ≡ term_of_words (map placed_word words.now)) }
 {
     if let [alone] = words {

@@ -1,6 +1,7 @@
 //! Words of terms by their numbers.
 ghost use Rattle.std.specs.Prelude.{◌≡◌, ◌≤◌, length, map, OnOk};
 ghost use Rattle.std.specs.List.{AllByRecursion};
+ghost use Rattle.chr_value.specs.Bounds.{most_size, most_variables};
 ghost use Rattle.chr_lex.specs.Reading.{Gives};
 ghost use Rattle.chr_lex.specs.Tokens.{word as word_of};
 ghost use Rattle.chr_grammar.specs.Views.{node as node_of};
@@ -56,7 +57,7 @@ fn number_word<'a, A: Allocator + Copy>(
     part: Word<'a>,
 ) -> Result<NumberedWord, ItemError>
     requires fits { WordFits (word_of part) }
-    requires room { length (word_by_texts (texts seen.old.items) (word_of part)).1 ≤ 24 }
+    requires room { length (word_by_texts (texts seen.old.items) (word_of part)).1 ≤ most_variables }
     ensures gives { Gives (λ w. (word_term w, names.new)) result (or_full (numbered_term names.old (word_by_texts (texts seen.old.items) (word_of part.entry)).0)) }
     ensures seen { OnOk result (texts seen.new.items ≡ (word_by_texts (texts seen.old.items) (word_of part.entry)).1) }
     ensures keeps { (t : Table) → Keeps t names.old → Keeps t names.new }
@@ -77,8 +78,8 @@ pub fn number_words<'a, A: Allocator + Copy>(
     nodes: &[TermNode<'a>],
 ) -> Result<NumberedWords, ItemError>
     requires fits { AllByRecursion NodeFits (map node_of nodes.now) }
-    requires few { length nodes.now ≤ 64 }
-    requires room { length (in_turn node_by_texts (texts seen.old.items) (map node_of nodes.now)).1 ≤ 24 }
+    requires few { length nodes.now ≤ most_size }
+    requires room { length (in_turn node_by_texts (texts seen.old.items) (map node_of nodes.now)).1 ≤ most_variables }
     ensures gives { Gives (λ v. (map placed_word v.items, names.new)) result (or_full (each numbered_word names.old (in_turn node_by_texts (texts seen.old.items) (map node_of nodes.now)).0)) }
     ensures seen { OnOk result (texts seen.new.items ≡ (in_turn node_by_texts (texts seen.old.items) (map node_of nodes.now)).1) }
     ensures keeps { (t : Table) → Keeps t names.old → Keeps t names.new }

@@ -1,6 +1,6 @@
 //! What is a rule, from both sides of each limit.
 use chr_rule::{BodyItem, Comparison, Expr, Open, Rule, RuleAtom, Term};
-use chr_value::{Comp, MOST_ARGS, Name, Value};
+use chr_value::{Arguments, Comp, MOST_ARGS, Name, Value};
 use std::alloc::Global;
 
 /// `count` variables, from `first` on.
@@ -158,9 +158,20 @@ fn rules_from_both_sides_of_each_limit(rt: HostRuntime) {
 
 const FUNCTOR: Name = Name { number: 4 };
 
-/// A functor with these arguments.
+/// Returns these as arguments of a functor. None where there are none or too many.
+pub fn arguments_of<T>(list: Vec<T>) -> Option<Arguments<T, Global>>
+where
+    T: Drop,
+{
+    if list.is_empty() || list.len() > MOST_ARGS {
+        return None;
+    }
+    Some(Arguments::new(list))
+}
+
+/// A functor with these arguments. None where no functor has so many.
 fn functor_of(alloc: Global, args: Vec<Term<Global>>) -> Option<Term<Global>> {
-    let functor = FUNCTOR;
+    let (functor, args) = (FUNCTOR, arguments_of(args)?);
     Some(Term::Open(Box::new(alloc, Open { functor, args }).ok()?))
 }
 
@@ -184,7 +195,7 @@ fn nested(alloc: Global, functors: u8) -> Option<Term<Global>> {
 fn comp_over(alloc: Global, value: Value<Global>) -> Option<Value<Global>> {
     let mut args = Vec::new(alloc);
     args.push(value).ok()?;
-    let functor = FUNCTOR;
+    let (functor, args) = (FUNCTOR, arguments_of(args)?);
     Some(Value::Comp(Box::new(alloc, Comp { functor, args }).ok()?))
 }
 
@@ -235,19 +246,22 @@ fn term_of(alloc: Global, shape: Shape) -> Option<Term<Global>> {
     }
 }
 
-/// Terms, and whether a head beside the first variable may have them.
-static TERMS: [(Shape, bool); 11] = [
-    (Shape::Nested(0), true),
-    (Shape::Nested(7), true),
-    (Shape::Nested(8), false),
-    (Shape::NestedValue(7), true),
-    (Shape::NestedValue(8), false),
-    (Shape::OpenValue, false),
-    (Shape::Wide(&[8]), true),
-    (Shape::Wide(&[9]), false),
-    (Shape::Wide(&[1; 9]), false),
-    (Shape::Wide(&[7, 7, 7, 7, 7, 7, 7, 6]), true),
-    (Shape::Wide(&[7; 8]), false),
+/// Terms, and whether a head beside the first variable may have them. None where no functor has so many arguments, so that
+/// there is no such term.
+static TERMS: [(Shape, Option<bool>); 13] = [
+    (Shape::Nested(0), Some(true)),
+    (Shape::Nested(7), Some(true)),
+    (Shape::Nested(8), Some(false)),
+    (Shape::NestedValue(7), Some(true)),
+    (Shape::NestedValue(8), Some(false)),
+    (Shape::OpenValue, Some(false)),
+    (Shape::Wide(&[]), None),
+    (Shape::Wide(&[0]), None),
+    (Shape::Wide(&[8]), Some(true)),
+    (Shape::Wide(&[9]), None),
+    (Shape::Wide(&[1; 9]), None),
+    (Shape::Wide(&[7, 7, 7, 7, 7, 7, 7, 6]), Some(true)),
+    (Shape::Wide(&[7; 8]), Some(false)),
 ];
 
 /// A head of the first variable and a term.
@@ -268,9 +282,6 @@ fn may_be_removed(alloc: Global, shape: Shape) -> Option<bool> {
 #[test]
 fn terms_from_both_sides_of_each_limit(rt: HostRuntime) {
     for (i, (shape, wanted)) in TERMS.iter().enumerate() {
-        assert!(rt;
-            may_be_removed(rt.alloc(), *shape) == Some(*wanted),
-            "row {i}"
-        );
+        assert!(rt; may_be_removed(rt.alloc(), *shape) == *wanted, "row {i}");
     }
 }

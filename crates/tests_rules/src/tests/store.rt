@@ -2,6 +2,7 @@
 ghost use Rattle.std.specs.Prelude.{◌≤◌};
 ghost use Rattle.chr_value.specs.Bounds.{greatest_label};
 
+use crate::tests::rules::arguments_of;
 use crate::tests::texts::{atoms_of, inserts_text};
 use chr_store::{Store, StoreFault};
 use chr_value::{Atom, Comp, Name, Names, Pred, Value, ValueRef};
@@ -30,8 +31,10 @@ const KINDS: [Kind; 4] = [(false, false), (true, false), (false, true), (true, t
 fn comp_of(alloc: Global, n: i64) -> Option<Comp<Global>> {
     let mut args = Vec::new(alloc);
     args.push(Value::Int(n)).ok()?;
-    let functor = Name { number: 1 };
-    Some(Comp { functor, args })
+    Some(Comp {
+        functor: Name { number: 1 },
+        args: arguments_of(args)?,
+    })
 }
 
 /// A store with a limit of at least 3 of `p(1)`, `p(2)` and `p(1)`, or with these numbers under a functor, under 1, 2 and 3.

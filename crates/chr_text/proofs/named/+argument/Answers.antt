@@ -15,7 +15,7 @@ named-terms n [] = (λ h. h, λ h. h)
 named-terms n (t ∷ ts) = let rest = named-terms n ts in (λ h. (h.0, rest.0 h.1), λ h. (h.0, rest.1 h.1))
 
 -- what is told of the arguments of a functor that is named is told of the term
-named-told : {A : Type 0} (self : CodeTerm A) (o : Box (CodeOpen A) A) (ts : List (CodeTerm A)) (n : ℕ) (told : Bool) → self ≡ terms.Open o → ts ≡ o.value.args.items → o.value.functor.number < n
+named-told : {A : Type 0} (self : CodeTerm A) (o : Box (CodeOpen A) A) (ts : List (CodeTerm A)) (n : ℕ) (told : Bool) → self ≡ terms.Open o → ts ≡ o.value.args.list.items → o.value.functor.number < n
     → IsTrue told ↔ AllByRecursion (ArgumentIsNamed n) (map argument ts) → IsTrue told ↔ ArgumentIsNamed n (argument self)
 named-told self o ts n told is are lt means =
     let l = argument-parts self o ts is are in
@@ -35,5 +35,5 @@ are_arguments_named-loop-term-preserved g t c =
 pub is_argument_named-returns-then-deref-count : goal.is_argument_named-returns-then-deref-count
 is_argument_named-returns-then-deref-count g t c =
     let number = ap (λ (k : CodeOpen _). k.functor.number) c.deref.ensures in
-    named-told _ c.in-Open.open _ c.args.count _ c.in-Open.is (c.deref-then-deref-count-2.ensures.value ∙ ap (λ (k : CodeOpen _). k.args.items) c.deref-then-deref-count.ensures)
+    named-told _ c.in-Open.open _ c.args.count _ c.in-Open.is (c.deref-then-deref-count-2.ensures ∙ ap (λ (k : CodeOpen _). k.args.list.items) c.deref-then-deref-count.ensures)
     (grind (arith, number, c.if-deref-count.true)) c.are_arguments_named.ensures

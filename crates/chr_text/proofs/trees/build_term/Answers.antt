@@ -3,7 +3,7 @@ use Rattle.chr_text.specs.Terms.{terms_of_words}
 use Rattle.chr_text.specs.Trees.{from_top}
 use Rattle.chr_text.specs.Words.{placed_word}
 use Rattle.chr_text.proofs.Lists.{map_end}
-use Rattle.chr_text.proofs.Numbered.{built, none_built, alone, word_built}
+use Rattle.chr_text.proofs.Numbered.{args_few, built, none_built, alone, word_built}
 use Rattle.chr_text.proofs.trees.build_term.Goals as goal
 
 pub returns-in-Some : goal.returns-in-Some
@@ -20,6 +20,11 @@ returns g c =
 
 pub returns-in-len1 : goal.returns-in-len1
 returns-in-len1 g c = c.word_term.ensures ∙ alone c.args.words.now _ c.in-len1.len_at_least c.in-len1.len_below
+
+pub with_args-requires : goal.with_args-requires
+with_args-requires g c =
+    let at = c.loop-place in
+    omega (arith, c.in_ok-args.args.ok.0, args_few c.args.words.now (at.place - 1) at.place _ at.stack.items c.in_ok-args.args.items (omega arith) (omega arith) c.requires at.invariant c.in_ok-args.ensures.taken)
 
 pub loop-place-init : goal.loop-place-init
 loop-place-init g c = ap from_top c.new-stack.ensures.items ∙ ap terms_of_words (sym (map_end placed_word c.args.words.now (length c.args.words.now) (omega arith)))
