@@ -1,0 +1,4 @@
+pub mod Partners
+pub mod Atoms
+pub mod Hashes
+pub mod Homes
