@@ -6,11 +6,13 @@ use Rattle.std.proofs.lemmas.Bool.Decides.{nat_tests}
 use Rattle.chr_value.specs.Atoms.{Atom, Value}
 use Rattle.chr_value.proofs.Chosen.{some_is}
 use Rattle.chr_model.specs.Stores.{Store, atom_at, labels, atoms, among, Distinct, Carry, Labelled, NoneWith}
-use Rattle.chr_enumeration.specs.Picks.{Picks, picked_at, picked, AllPicked, Fills, picks, IsOpen, Has, HeadIs, AllFit, IsInstanceOver, IsPartial, IsMatch, NoMatch}
+use Rattle.chr_enumeration.specs.Partners.{HasAllBut}
+use Rattle.chr_enumeration.specs.Picks.{Picks, picked_at, picked, AllPicked, Fills, picks, IsOpen, Has, HeadIs, MayBeHead, AllFit, IsInstanceOver, IsPartial, IsMatch, NoMatch}
 use Rattle.std.specs.List.{AllByRecursion}
 use Rattle.std.specs.Option.{option_map}
 use denote.Ref.{Bor}
 use Rattle.std.proofs.lemmas.List.{length-append, length-map, length-replicate, take-replicate, take-map, drop-map, map-set, set-set, set-get_or, take_at, drop_at, take-append-drop}
+use Rattle.std.proofs.lemmas.List.Elements.{All-contains, All-from_recursion}
 use Rattle.std.proofs.lemmas.Option.{slice_get-map, slice_get-get_or, slice_get_read, slice_get_within, none-some}
 use Rattle.chr_rule.specs.Rules.{RuleAtom, Simpagation, head_at, rule_at}
 use Rattle.chr_guard.specs.Values.{Valuation}
@@ -18,12 +20,12 @@ use Rattle.chr_guard.specs.Bindings.{Narrows, NoneUnder, bound_at}
 use Rattle.chr_guard.specs.Instances.{atom_under, AreUnder, IsInstance, NoInstance, AreMadeUnder, IsRight, added, Instance}
 use Rattle.chr_guard.specs.Matching.{HeadsAre, IsFit, IsInstanceUnder}
 use Rattle.chr_guard.proofs.Bindings.{free_extends}
-use Rattle.chr_guard.proofs.Steps.{all_more, map_read}
+use Rattle.chr_guard.proofs.Steps.{all_more}
 use Rattle.chr_guard.proofs.Under.{under_length}
 use Rattle.chr_guard.proofs.Whole.{heads_of}
-use Rattle.chr_enumeration.specs.Found.{listed, IsFound}
+use Rattle.chr_enumeration.specs.Found.{IsFound}
 use Rattle.chr_enumeration.specs.declared.slots.Match.{Match}
-use Rattle.chr_enumeration.proofs.Entries.{all_there, stored_at, among_at, carry_at, entry_at, carried, carry_both, carry_take, carry_drop}
+use Rattle.chr_enumeration.proofs.Entries.{among_at, carry_at, entry_at, carried, carry_both, carry_take, carry_drop}
 use Rattle.chr_model.specs.Programs.{Instances}
 use Rattle.chr_model.proofs.Stores.{Labelled-there}
 use Rattle.chr_enumeration.specs.declared.search.Found.{Found}
@@ -234,9 +236,27 @@ match_as Other f other = record { entries = f.entries; such = other; under = f.u
 pub match_less : {A : Type 0} (rule : Simpagation ℕ) (store : Store) (ps : Picks) (i : ℕ) (e : ℕ × Atom ℕ) (m : Match A) → IsOpen ps i → IsMatch rule store (Fills (slice_set ps i (Some e))) m → IsMatch rule store (Fills ps) m
 match_less rule store ps i e m o f = match_as (Fills ps) f (fills_less ps i e f.entries o.none f.such)
 
--- no entry of the store is left to try
-pub no_more : (rule : Simpagation ℕ) (store : Store) (ps : Picks) (i : ℕ) (binding : List (Option (Value ℕ))) → IsPartial rule store ps binding → IsOpen ps i → AllByRecursion (λ (e : ℕ × Atom ℕ). NoMatch rule store (Fills (slice_set ps i (Some e)))) store → NoMatch rule store (Fills ps)
-no_more rule store ps i binding p o all entries body w f =
+-- no entry under a label is picked for the head
+abbrev pub Tried : Simpagation ℕ → Store → Picks → ℕ → ℕ → Type 0
+Tried rule store ps i label = (a : Atom ℕ) → atom_at store label ≡ Some a → NoMatch rule store (Fills (slice_set ps i (Some (label, a))))
+
+within_alike : (xs : List ℕ) (i d e : ℕ) → i < length xs → get_or xs i d ≡ get_or xs i e
+within_alike [] i d e lt = absurd (omega (arith, lt))
+within_alike (x ∷ xs) zero d e lt = refl
+within_alike (x ∷ xs) (suc i) d e lt = within_alike xs i d e (omega (arith, lt))
+
+pub tried_more : (P : ℕ → Type 0) (labels : List ℕ) (i label : ℕ) → i < length labels → label ≡ get_or labels i 0 → AllByRecursion P (take i labels) → P label → AllByRecursion P (take (i + 1) labels)
+tried_more P labels i label within is all this = (all_more P labels i label within (is ∙ within_alike labels i 0 label within)).1 (all, this)
+
+pub tried_one : (rule : Simpagation ℕ) (store : Store) (ps : Picks) (i label : ℕ) (a : Atom ℕ) → atom_at store label ≡ Some a → NoMatch rule store (Fills (slice_set ps i (Some (label, a)))) → Tried rule store ps i label
+tried_one rule store ps i label a there none b at = subst (λ x. NoMatch rule store (Fills (slice_set ps i (Some (label, x))))) (some_is a b (sym there ∙ at)) none
+
+pub slots_within : (slots : List (Option (ℕ × Bor (Atom ℕ)))) (ps : Picks) (i : ℕ) → picks slots ≡ ps → IsOpen ps i → i < length slots
+slots_within slots ps i same o = let long = ap length same in let inside = o.within in omega (arith, long, inside, length-map slots (option_map {U = ℕ × Atom ℕ} (λ (x : ℕ × Bor (Atom ℕ)). (x.0, x.1.now))))
+
+-- no candidate is left to try
+pub no_more : (rule : Simpagation ℕ) (store : Store) (own : ℕ) (ps : Picks) (i n : ℕ) (binding : List (Option (Value ℕ))) (candidates : List ℕ) → IsPartial rule store ps binding → IsOpen ps i → n ≡ suc i → among (labels (picked ps)) own ≡ true → HasAllBut own store (MayBeHead rule n binding) candidates → AllByRecursion (Tried rule store ps i) candidates → NoMatch rule store (Fills ps)
+no_more rule store own ps i n binding candidates p o is picks_own has all entries body w f =
     let long : length entries ≡ length rule.kept + length rule.removed = whole_length rule store entries body w in
     let heads = p.heads in
     let inside = o.within in
@@ -244,7 +264,13 @@ no_more rule store ps i binding p o all entries body w f =
     let none : ℕ × Atom ℕ = (0, record { name = 0; args = [] }) in
     let e = get_or entries i none in
     let at = slice_get-get_or entries i none within in
-    all_there (λ (x : ℕ × Atom ℕ). NoMatch rule store (Fills (slice_set ps i (Some x)))) store e.0 e.1 all (carry_at store entries i e w.there at) entries body w (fills_more ps i e entries o.within f at)
+    let there = carry_at store entries i e w.there at in
+    let more = fills_more ps i e entries o.within f at in
+    let away : e.0 ≢ own = λ same. no_repeat rule store ps i e o (ap (among (labels (picked ps))) same ∙ picks_own) entries body w more in
+    let v = w.instance.valuation in
+    let both = (all_fit_more rule ps i e v o.within o.none).0 (all_fit rule (slice_set ps i (Some e)) entries v (whole_fits rule store entries body w) more) in
+    let may : MayBeHead rule n binding e.1 = (v, (p.fit.exactly v).1 both.0, subst (λ k. HeadIs rule k e.1 v) (sym is) both.1) in
+    All-contains (Tried rule store ps i) candidates e.0 (All-from_recursion (Tried rule store ps i) candidates all) (has e.0 e.1 there away may) e.1 there entries body w more
 
 -- nothing is picked
 pub partial_none : (rule : Simpagation ℕ) (store : Store) (n : ℕ) → n ≡ length rule.kept + length rule.removed → IsPartial rule store (replicate n None) (replicate rule.variables None)
@@ -276,18 +302,6 @@ picks_set slots ps i x e = map-set (option_map (λ (y : ℕ × Bor (Atom ℕ)). 
 pub picks_back : (slots : List (Option (ℕ × Bor (Atom ℕ)))) (ps : Picks) (i : ℕ) (e : ℕ × Atom ℕ) → picks slots ≡ slice_set ps i (Some e) → picked_at ps i ≡ None → picks (slice_set slots i None) ≡ ps
 picks_back slots ps i e same none =
     map-set (option_map (λ (y : ℕ × Bor (Atom ℕ)). (y.0, y.1.now))) slots i None ∙ ap (λ qs. slice_set qs i None) same ∙ set-set ps i (Some e) None ∙ ap (slice_set ps i) (sym none) ∙ set-get_or ps i None
-
--- one entry of the store more is tried
-pub tried_more : (P : ℕ × Atom ℕ → Type 0) (store : List (ℕ × Bor (Atom ℕ))) (i : ℕ) (x : ℕ × Bor (Atom ℕ)) → i < length store → x ≡ get_or store i x → AllByRecursion P (take i (listed store)) → P (x.0, x.1.now) → AllByRecursion P (take (i + 1) (listed store))
-tried_more P store i x within is all this =
-    let here : i < length (listed store) = rw length-map within in
-    (all_more P (listed store) i (x.0, x.1.now) here (map_read (λ (y : ℕ × Bor (Atom ℕ)). (y.0, y.1.now)) store i x within is)).1 (all, this)
-
-pub stored_there : (store : List (ℕ × Bor (Atom ℕ))) (i : ℕ) (x : ℕ × Bor (Atom ℕ)) → Distinct (labels (listed store)) → i < length store → x ≡ get_or store i x → atom_at (listed store) x.0 ≡ Some x.1.now
-stored_there store i x distinct within is =
-    let here : i < length (listed store) = rw length-map within in
-    stored_at (listed store) i (x.0, x.1.now) distinct
-    (slice_get_read (listed store) (length (listed store)) i (x.0, x.1.now) refl here (map_read (λ (y : ℕ × Bor (Atom ℕ)). (y.0, y.1.now)) store i x within is))
 
 take_written : {X : Type 0} (n : ℕ) (xs : List X) (i : ℕ) (x : X) → take n (slice_set xs i x) ≡ slice_set (take n xs) i x
 take_written zero xs i x = refl
@@ -402,3 +416,9 @@ is_found rules store label rule m f at kept removed binding i =
 
 pub numbered_at : (rules : List (Simpagation ℕ)) (n i : ℕ) (rule : Simpagation ℕ) → n ≡ suc i → i < length rules → rule ≡ get_or rules i rule → rule_at rules n ≡ Some rule
 numbered_at rules n i rule next within is = ap (rule_at rules) next ∙ slice_get_read rules (length rules) i rule refl within is
+
+pub picked_own : (ps : Picks) (i own : ℕ) (e : ℕ × Atom ℕ) → i < length ps → picked_at ps i ≡ None → among (labels (picked ps)) own ≡ true → among (labels (picked (slice_set ps i (Some e)))) own ≡ true
+picked_own ps i own e within none own_there = among_set ps i e within none own ∙ ap (λ b. (e.0 == own) || b) own_there ∙ grind (arith, nat_tests)
+
+pub picked_this : (ps : Picks) (i own : ℕ) (e : ℕ × Atom ℕ) → IsOpen ps i → e.0 ≡ own → among (labels (picked (slice_set ps i (Some e)))) own ≡ true
+picked_this ps i own e o is = among_set ps i e o.within o.none own ∙ grind (arith, nat_tests)

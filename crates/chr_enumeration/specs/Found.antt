@@ -1,16 +1,11 @@
 -- What a search for a labelled instance finds.
-use Rattle.std.specs.Prelude.{◌≡◌, ℕ, true, List, ◌++◌, map, Some}
-use denote.Ref.{Bor}
+use Rattle.std.specs.Prelude.{◌≡◌, ℕ, true, List, ◌++◌, Some}
 use Rattle.chr_value.specs.Atoms.{Atom}
 use Rattle.chr_rule.specs.Rules.{Simpagation, rule_at}
 use Rattle.chr_guard.specs.Matching.{IsInstanceUnder}
 use Rattle.chr_model.specs.Stores.{Store, among, Carry, Labelled}
 use Rattle.chr_model.specs.Programs.{Instances}
 use Rattle.chr_enumeration.specs.declared.search.Found.{Found}
-
--- labels with their atoms as a store
-abbrev pub listed : List (ℕ × Bor (Atom ℕ)) → Store
-listed entries = map (λ e. (e.0, e.1.now)) entries
 
 -- a labelled instance over the store that has the label, with the one binding of its rule's
 -- variables

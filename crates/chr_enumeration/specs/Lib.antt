@@ -1,2 +1,3 @@
+pub mod Partners
 pub mod Found
 pub mod Picks

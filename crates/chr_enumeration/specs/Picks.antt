@@ -7,6 +7,7 @@ use denote.Ref.{Bor}
 use Rattle.chr_value.specs.Atoms.{Value, Atom}
 use Rattle.chr_rule.specs.Rules.{Simpagation}
 use Rattle.chr_guard.specs.Values.{Valuation}
+use Rattle.chr_guard.specs.Bindings.{Extends}
 use Rattle.chr_guard.specs.Instances.{IsInstance}
 use Rattle.chr_guard.specs.Matching.{IsAtHead, IsFit, IsInstanceUnder}
 use Rattle.chr_model.specs.Stores.{Store, labels, atoms, among, Distinct, Carry}
@@ -48,6 +49,11 @@ Has label entries = among (labels entries) label ≡ true
 -- under the valuation the head of the number, from 1, is the atom
 abbrev pub HeadIs : Simpagation ℕ → ℕ → Atom ℕ → Valuation → Type 0
 HeadIs rule number atom v = IsAtHead rule v (number, atom)
+
+-- the head of the number, from 1, is the atom under some valuation that extends the binding
+abbrev pub MayBeHead : Simpagation ℕ → ℕ → List (Option (Value ℕ)) → Atom ℕ → Type 0
+MayBeHead rule number binding atom =
+    (v : Valuation) × Extends v binding × HeadIs rule number atom v
 
 -- under the valuation the heads are the atoms that are picked for them
 abbrev pub AllFit : Simpagation ℕ → Picks → Valuation → Type 0

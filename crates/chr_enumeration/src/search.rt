@@ -1,14 +1,14 @@
 //! The first labelled instance with a label.
-ghost use Rattle.std.specs.Prelude.{◌≡◌, Some, map, MatchOption};
-ghost use Rattle.std.specs.Option.{option_map};
+ghost use Rattle.std.specs.Prelude.{◌≡◌, Some, MatchOption};
 ghost use Rattle.chr_model.specs.Programs.{Instances};
-ghost use Rattle.chr_model.specs.Stores.{atom_at, labels, Distinct, NoneWith};
-ghost use Rattle.chr_enumeration.specs.Found.{listed, IsFound};
+ghost use Rattle.chr_model.specs.Stores.{atom_at, NoneWith};
+ghost use Rattle.chr_enumeration.specs.Found.{IsFound};
 ghost use Rattle.chr_enumeration.specs.Picks.{Has, IsMatch, NoMatch};
 
+use crate::partners::Partners;
 use crate::slots::{Match, find_match, fit_next};
 use chr_guard::Binding;
-use chr_log::{Label, Labels};
+use chr_log::Labels;
 use chr_rule::{MOST_HEADS, Program, Rule};
 use chr_value::Atom;
 use std::alloc::Allocator;
@@ -23,32 +23,16 @@ pub struct Found<'s, A: Allocator> {
     pub binding: Binding<'s, A>,
 }
 
-/// The atom of a label.
-fn find_atom<'s, A: Allocator + Copy>(
-    store: &[(Label, &'s Atom<A>)],
-    label: Label,
-) -> Option<&'s Atom<A>>
-    ensures { option_map (λ atom. atom.now) result ≡ atom_at (listed store.now) label }
-{
-    for entry in store {
-        if entry.0 == label {
-            return Some(entry.1);
-        }
-    }
-    None
-}
-
-/// The first labelled instance of a rule that has an entry of the store.
-fn find_with_entry<'s, A: Allocator + Copy>(
+/// Returns the first labelled instance of a rule that has the constraint whose partners these are.
+fn find_with_own<'s, A: Allocator + Copy, P: Partners<A>>(
     rule: &Rule<A>,
-    store: &[(Label, &'s Atom<A>)],
-    label: Label,
+    partners: &'s P,
     atom: &'s Atom<A>,
 ) -> Option<Match<'s, A>>
-    requires distinct { Distinct (labels (listed store.now)) }
-    requires there { atom_at (listed store.now) label ≡ Some atom.now }
-    ensures { MatchOption result (NoMatch rule.now (listed store.now) (Has label)) (IsMatch rule.now (listed store.now) (Has label)) }
+    requires { atom_at (P.store partners.now) (P.own partners.now) ≡ Some atom.now }
+    ensures { MatchOption result (NoMatch rule.now (P.store partners.now) (Has (P.own partners.now))) (IsMatch rule.now (P.store partners.now) (Has (P.own partners.now))) }
 {
+    let label = partners.own();
     let free = Binding::free(rule.variables());
     let heads = rule.heads();
     for head in 0..heads {
@@ -57,27 +41,25 @@ fn find_with_entry<'s, A: Allocator + Copy>(
         };
         let mut slots = [None; MOST_HEADS];
         slots[head] = Some((label, atom));
-        if let Some(found) = find_match(rule, store, &mut slots[..heads], binding) {
+        if let Some(found) = find_match(rule, partners, &mut slots[..heads], binding) {
             return Some(found);
         }
     }
     None
 }
 
-/// A labelled instance of a program's rules over a store that has a label. None only where the label is in no labelled
-/// instance over the store. The store has no label twice.
-pub fn find_with_label<'s, A: Allocator + Copy>(
+/// Returns a labelled instance of a program's rules that has a constraint, over that and its partners. None only where
+/// there is none.
+pub fn find_with_partners<'s, A: Allocator + Copy, P: Partners<A>>(
     program: &Program<A>,
-    store: &[(Label, &'s Atom<A>)],
-    label: Label,
+    partners: &'s P,
 ) -> Option<Found<'s, A>>
-    requires { Distinct (labels (listed store.now)) }
-    ensures { MatchOption result (NoneWith (Instances program.now) (listed store.now) label) (IsFound program.now (listed store.now) label) }
+    ensures { MatchOption result (NoneWith (Instances program.now) (P.store partners.now) (P.own partners.now)) (IsFound program.now (P.store partners.now) (P.own partners.now)) }
 {
-    let atom = find_atom(store, label)?;
+    let atom = partners.atom(partners.own())?;
     let rules = program.rules();
     for (place, rule) in rules.iter().enumerate() {
-        if let Some(found) = find_with_entry(rule, store, label, atom) {
+        if let Some(found) = find_with_own(rule, partners, atom) {
             return Some(Found {
                 rule: (place + 1) as u16,
                 kept: found.kept,

@@ -1,11 +1,12 @@
 //! The heads of a rule, with the entries of a store that are picked for them.
-ghost use Rattle.std.specs.Prelude.{◌≡◌, ◌≤◌, ◌<◌, ◌+◌, length, MatchOption};
+ghost use Rattle.std.specs.Prelude.{◌≡◌, ◌≤◌, ◌<◌, ◌+◌, true, length, MatchOption};
 ghost use Rattle.chr_value.specs.Bounds.{most_heads};
 ghost use Rattle.chr_guard.specs.Bindings.{Narrows, NoneUnder};
-ghost use Rattle.chr_model.specs.Stores.{among, labels, Distinct};
-ghost use Rattle.chr_enumeration.specs.Found.{listed};
-ghost use Rattle.chr_enumeration.specs.Picks.{picks, picked, IsOpen, AllPicked, Fills, HeadIs, IsPartial, IsMatch, NoMatch};
+ghost use Rattle.chr_model.specs.Stores.{among, labels};
+ghost use Rattle.chr_enumeration.specs.Partners.{HasAllBut};
+ghost use Rattle.chr_enumeration.specs.Picks.{picks, picked, IsOpen, AllPicked, Fills, HeadIs, MayBeHead, IsPartial, IsMatch, NoMatch};
 
+use crate::partners::Partners;
 use chr_guard::instance::instance_from;
 use chr_guard::{Binding, fit_head};
 use chr_log::{Label, Labels};
@@ -113,16 +114,17 @@ fn labels_of<A: Allocator>(slots: &[Option<(Label, &Atom<A>)>]) -> Labels
 }
 
 /// The instance that the entries make which are picked for all heads, if they make one.
-fn whole<'s, A: Allocator + Copy>(
+fn whole<'s, A: Allocator + Copy, P: Partners<A>>(
     rule: &Rule<A>,
-    store: &[(Label, &Atom<A>)],
+    partners: &P,
     slots: &[Option<(Label, &Atom<A>)>],
     binding: Binding<'s, A>,
 ) -> Option<Match<'s, A>>
-    requires partial { IsPartial rule.now (listed store.now) (picks slots.now) binding }
+    requires partial { IsPartial rule.now (P.store partners.now) (picks slots.now) binding }
     requires all { AllPicked (picks slots.now) }
-    ensures { MatchOption result (NoMatch rule.now (listed store.now) (Fills (picks slots.now))) (IsMatch rule.now (listed store.now) (Fills (picks slots.now))) }
+    ensures { MatchOption result (NoMatch rule.now (P.store partners.now) (Fills (picks slots.now))) (IsMatch rule.now (P.store partners.now) (Fills (picks slots.now))) }
 {
+    let _own = partners.own();
     let binding = instance_from(rule, binding)?;
     let (kept, removed) = slots.split_at(rule.kept().len());
     Some(Match {
@@ -132,30 +134,60 @@ fn whole<'s, A: Allocator + Copy>(
     })
 }
 
+/// Returns the shortest of the lists that have the labels of all partners for the head of a number, from 1, under a
+/// binding.
+fn candidates<'s, 'v, A: Allocator + Copy, P: Partners<A>>(
+    rule: &'v Rule<A>,
+    number: usize,
+    partners: &'s P,
+    binding: &Binding<'v, A>,
+) -> &'s [u32]
+    ensures { HasAllBut (P.own partners.now) (P.store partners.now) (MayBeHead rule.now number binding.now) result.now }
+{
+    let Some(head) = rule.head(number) else {
+        return &[];
+    };
+    let mut shortest = partners.labels(head.name);
+    for (index, term) in head.terms.iter().enumerate() {
+        if let Some(value) = binding.key(term) {
+            if let Some(labels) = partners.labels_at(head.name, index + 1, &value) {
+                if labels.len() < shortest.len() {
+                    shortest = labels;
+                }
+            }
+        }
+    }
+    shortest
+}
+
 /// The first labelled instance of a rule that has what is picked, where the binding is that of the picked heads'
 /// variables. Where there is none the slots are as before.
-pub fn find_match<'s, A: Allocator + Copy>(
+pub fn find_match<'s, A: Allocator + Copy, P: Partners<A>>(
     rule: &Rule<A>,
-    store: &[(Label, &'s Atom<A>)],
+    partners: &'s P,
     slots: &mut [Option<(Label, &'s Atom<A>)>],
     binding: Binding<'s, A>,
 ) -> Option<Match<'s, A>>
-    requires distinct { Distinct (labels (listed store.now)) }
-    requires partial { IsPartial rule.now (listed store.now) (picks slots.old) binding }
-    ensures { let ps = picks slots.old in MatchOption result ((picks slots.new ≡ ps) × NoMatch rule.now (listed store.now) (Fills ps)) (IsMatch rule.now (listed store.now) (Fills ps)) }
+    requires partial { IsPartial rule.now (P.store partners.now) (picks slots.old) binding }
+    requires own { among (labels (picked (picks slots.old))) (P.own partners.now) ≡ true }
+    ensures { let ps = picks slots.old in MatchOption result ((picks slots.new ≡ ps) × NoMatch rule.now (P.store partners.now) (Fills ps)) (IsMatch rule.now (P.store partners.now) (Fills ps)) }
 {
     let Some(place) = next_head(rule, slots, &binding) else {
-        return whole(rule, store, slots, binding);
+        return whole(rule, partners, slots, binding);
     };
-    for entry in store {
-        if is_picked(slots, entry.0) {
+    for candidate in candidates(rule, place + 1, partners, &binding) {
+        let label = u64::from(*candidate);
+        if is_picked(slots, label) {
             continue;
         }
-        let Some(next) = fit_next(rule, &binding, place + 1, entry.1) else {
+        let Some(atom) = partners.atom(label) else {
             continue;
         };
-        slots[place] = Some(*entry);
-        if let Some(found) = find_match(rule, store, slots, next) {
+        let Some(next) = fit_next(rule, &binding, place + 1, atom) else {
+            continue;
+        };
+        slots[place] = Some((label, atom));
+        if let Some(found) = find_match(rule, partners, slots, next) {
             return Some(found);
         }
         slots[place] = None;

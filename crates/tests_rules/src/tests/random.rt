@@ -1,16 +1,11 @@
-//! Random searches, compared with plain enumeration.
-ghost use Rattle.std.specs.Prelude.{IfOk};
-ghost use Rattle.chr_enumeration.specs.Found.{listed};
-ghost use Rattle.chr_model.specs.Stores.{labels, Distinct};
+//! Random searches, compared with what trying all labels at all heads finds.
 ghost use Rattle.chr_plan.specs.Plans.{ArePlans};
 
 use crate::tests::searches::{Scene, labels_of, next_judged, plans_of, program_and_store};
-use chr_enumeration::find_with_label;
 use chr_guard::instance::instance_under;
 use chr_rule::{Program, Rule};
 use chr_search::{Ask, Judged, Search, Trial, Verdict};
 use chr_store::Store;
-use chr_value::Atom;
 use std::alloc::{AllocError, Global};
 
 /// How many atoms a store has at most.
@@ -408,56 +403,9 @@ fn are_same(reached: &[Found], expected: &[Found]) -> bool {
             .all(|one| has(reached, one.rule, &one.labels))
 }
 
-/// The constraints of a store in a list.
-fn listing(alloc: Global, store: &Store<Global>) -> Result<Vec<(u64, &Atom<Global>)>, AllocError>
-    ensures { IfOk result (λ made. Distinct (labels (listed made.items))) }
-{
-    let mut list = Vec::new(alloc);
-    for (label, atom) in store.iter() {
-        list.push((label, atom))?;
-    }
-    Ok(list)
-}
-
-/// A copy of a store without the labels above the active one.
-fn without_younger(alloc: Global, store: &Store<Global>, active: u64) -> Option<Store<Global>> {
-    let mut older = store.copy(alloc).ok()?;
-    for label in 1..=MOST_ATOMS {
-        if label > active {
-            let _atom = older.remove(label);
-        }
-    }
-    Some(older)
-}
-
-/// Whether plain enumeration over a store finds an instance with a label just where one is reached, and one of these.
-fn is_first_reached(
-    alloc: Global,
-    program: &Program<Global>,
-    store: &Store<Global>,
-    active: u64,
-    reached: &[Found],
-) -> Option<bool> {
-    let list = listing(alloc, store).ok()?;
-    let Some(first) = find_with_label(program, &list, active) else {
-        return Some(reached.is_empty());
-    };
-    let (kept, removed) = (first.kept.as_slice(), first.removed.as_slice());
-    let found = found_of(alloc, first.rule, kept, removed)?;
-    Some(has(reached, found.rule, &found.labels))
-}
-
-/// Whether a search reaches what both enumerations find. None where memory ran out.
-fn is_right(
-    alloc: Global,
-    scene: Scene,
-    label: u64,
-    reached: &Reached,
-    expected: &[Found],
-) -> Option<bool> {
-    let older = without_younger(alloc, scene.store, label)?;
-    let first = is_first_reached(alloc, scene.program, &older, label, &reached.found)?;
-    Some(first && are_same(&reached.found, expected) && is_behind_right(reached))
+/// Whether a search reaches what enumeration finds.
+fn is_right(reached: &Reached, expected: &[Found]) -> bool {
+    are_same(&reached.found, expected) && is_behind_right(reached)
 }
 
 /// How many instances the search of a label reaches. None where it is wrong, or memory ran out.
@@ -466,7 +414,7 @@ fn count_of_label(alloc: Global, scene: Scene, label: u64) -> Option<usize>
 {
     let reached = reach(alloc, scene, label)?;
     let expected = enumerate(alloc, scene.program, scene.store, label)?;
-    if is_right(alloc, scene, label, &reached, &expected)? {
+    if is_right(&reached, &expected) {
         return Some(expected.len());
     }
     None

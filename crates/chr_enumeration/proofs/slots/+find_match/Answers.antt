@@ -1,75 +1,105 @@
-use Rattle.std.proofs.Common.{◌≡◌, ◌<◌, ◌≤◌, ℕ, ◌+◌, true, false, length, Some, slice_set, sym, ap, subst, ◌∙◌, arith, lit<}
+use Rattle.std.proofs.Common.{◌≡◌, ◌<◌, ℕ, ◌+◌, true, false, None, Some, Bor, slice_set, length-set, sym, ap, subst, ◌∙◌, arith, lit<}
+use Rattle.std.specs.Option.{option_map}
 use Rattle.std.proofs.lemmas.Grind.{common_steps}
 use Rattle.std.specs.List.{AllByRecursion}
-use Rattle.std.proofs.lemmas.List.{take_all, length-map}
+use Rattle.std.proofs.lemmas.List.{take_all}
 use Rattle.chr_value.specs.Atoms.{Atom}
 use Rattle.chr_model.specs.Stores.{among, labels, atom_at}
-use Rattle.chr_enumeration.specs.Found.{listed}
 use Rattle.chr_enumeration.specs.Picks.{Picks, picks, picked, Fills, IsPartial, NoMatch}
-use Rattle.chr_enumeration.proofs.Wholes.{left, left_less, no_repeat, no_fit_more, partial_more, match_less, no_more, picks_set, picks_back, tried_more, stored_there}
+use Rattle.chr_enumeration.proofs.Wholes.{left, left_less, no_repeat, no_fit_more, partial_more, match_less, no_more, picks_set, picks_back, tried_more, tried_one, Tried, picked_own, slots_within}
 use Rattle.chr_enumeration.proofs.slots.+find_match.Goals as goal
 
-pub loop-entry-preserved-then-is_picked : goal.loop-entry-preserved-then-is_picked
-loop-entry-preserved-then-is_picked g t c =
-    let rule = c.args.rule.now in
-    let store = c.args.store.now in
+pub loop-candidate-preserved-then-is_picked : goal.loop-candidate-preserved-then-is_picked
+loop-candidate-preserved-then-is_picked g t c =
     let ps = picks c.args.slots.now in
-    let x = c.entry-item.result in
-    let there : among (labels (picked ps)) x.0 ≡ true = ap (λ (qs : Picks). among (labels (picked qs)) x.0) (sym c.loop-entry.invariant.same) ∙ sym c.is_picked.ensures ∙ c.if-is_picked.true in
+    let label = c.from-label.result in
+    let there : among (labels (picked ps)) label ≡ true = ap (λ (qs : Picks). among (labels (picked qs)) label) (sym c.loop-candidate.invariant.same) ∙ sym c.is_picked.ensures ∙ c.if-is_picked.true in
     record {
-      same = c.loop-entry.invariant.same;
-      none = tried_more (λ (e : ℕ × Atom ℕ). NoMatch rule (listed store) (Fills (slice_set ps c.in-Some.place (Some e)))) store c.loop-entry.entry-index x c.loop-entry-test.true c.entry-item.is c.loop-entry.invariant.none
-          (no_repeat rule (listed store) ps c.in-Some.place (x.0, x.1.now) c.in-Some.ensures there);
+      same = c.loop-candidate.invariant.same;
+      none = tried_more (Tried c.args.rule.now (g.P.Partners.store c.args.partners.now) ps c.in-Some.place) c.candidates-candidate-items.result.now c.loop-candidate.candidate-index label c.loop-candidate-test.true c.from-label.ensures c.loop-candidate.invariant.none
+          (λ a at. no_repeat c.args.rule.now (g.P.Partners.store c.args.partners.now) ps c.in-Some.place (label, a) c.in-Some.ensures there);
     }
 
-pub loop-entry-preserved-in_default-fit_next : goal.loop-entry-preserved-in_default-fit_next
-loop-entry-preserved-in_default-fit_next g t c =
-    let rule = c.args.rule.now in
-    let store = c.args.store.now in
-    let ps = picks c.args.slots.now in
-    let x = c.entry-item.result in
+pub loop-candidate-preserved-in_default-atom : goal.loop-candidate-preserved-in_default-atom
+loop-candidate-preserved-in_default-atom g t c =
+    let store = g.P.Partners.store c.args.partners.now in
+    let label = c.from-label.result in
+    let none = c.atom.ensures in
     record {
-      same = c.loop-entry.invariant.same;
-      none = tried_more (λ (e : ℕ × Atom ℕ). NoMatch rule (listed store) (Fills (slice_set ps c.in-Some.place (Some e)))) store c.loop-entry.entry-index x c.loop-entry-test.true c.entry-item.is c.loop-entry.invariant.none
-          (no_fit_more rule (listed store) ps c.in-Some.place (x.0, x.1.now) c.args.binding c.requires.partial c.in-Some.ensures (c.in-Some.place + 1) (omega arith) c.in_default-fit_next.ensures);
+      same = c.loop-candidate.invariant.same;
+      none = tried_more (Tried c.args.rule.now store (picks c.args.slots.now) c.in-Some.place) c.candidates-candidate-items.result.now c.loop-candidate.candidate-index label c.loop-candidate-test.true c.from-label.ensures c.loop-candidate.invariant.none
+          (λ a at. (let z : None ≡ Some a = ap (option_map (λ (b : Bor (Atom ℕ)). b.now)) (sym c.in_default-atom.is) ∙ c.atom.ensures ∙ at in absurd (cc)));
     }
+
+pub loop-candidate-preserved-in_default-fit_next : goal.loop-candidate-preserved-in_default-fit_next
+loop-candidate-preserved-in_default-fit_next g t c =
+    let rule = c.args.rule.now in
+    let store = g.P.Partners.store c.args.partners.now in
+    let ps = picks c.args.slots.now in
+    let label = c.from-label.result in
+    let stored : atom_at store label ≡ Some c.in-Some-atom.atom.now = sym c.atom.ensures ∙ ap (option_map (λ (b : Bor (Atom ℕ)). b.now)) c.in-Some-atom.is in
+    record {
+      same = c.loop-candidate.invariant.same;
+      none = tried_more (Tried rule store ps c.in-Some.place) c.candidates-candidate-items.result.now c.loop-candidate.candidate-index label c.loop-candidate-test.true c.from-label.ensures c.loop-candidate.invariant.none
+          (tried_one rule store ps c.in-Some.place label c.in-Some-atom.atom.now stored (no_fit_more rule store ps c.in-Some.place (label, c.in-Some-atom.atom.now) c.args.binding c.requires.partial c.in-Some.ensures (c.in-Some.place + 1) (omega arith) c.in_default-fit_next.ensures));
+    }
+
+pub bounds-slots-place : goal.bounds-slots-place
+bounds-slots-place g t c = slots_within c.loop-candidate.slots (picks c.args.slots.now) c.in-Some.place c.loop-candidate.invariant.same c.in-Some.ensures
 
 pub find_match-requires : goal.find_match-requires
 find_match-requires g t c κs within =
     let rule = c.args.rule.now in
-    let store = listed c.args.store.now in
+    let store = g.P.Partners.store c.args.partners.now in
+    let own = g.P.Partners.own c.args.partners.now in
     let ps = picks c.args.slots.now in
     let place = c.in-Some.place in
-    let x = c.entry-item.result in
-    let next = picks_set c.loop-entry.slots ps place x c.loop-entry.invariant.same in
-    let away : among (labels (picked ps)) x.0 ≡ false = ap (λ (qs : Picks). among (labels (picked qs)) x.0) (sym c.loop-entry.invariant.same) ∙ sym c.is_picked.ensures ∙ c.if-is_picked.false in
-    let there : atom_at store x.0 ≡ Some x.1.now = stored_there c.args.store.now c.loop-entry.entry-index x c.requires.distinct c.loop-entry-test.true c.entry-item.is in (
-      subst (λ n. left (picks (slice_set c.loop-entry.slots place (Some x))) < n) c.decreases (subst (λ qs. left qs < left ps) (sym next) (left_less ps place (x.0, x.1.now) c.in-Some.ensures.within c.in-Some.ensures.none)),
-      (within, (lit< tt, (lit< tt, (c.requires.distinct, subst (λ qs. IsPartial rule store qs c.in-Some-fit_next.next) (sym next) (partial_more rule store ps place (x.0, x.1.now) c.args.binding c.in-Some-fit_next.next c.requires.partial c.in-Some.ensures away there (place + 1) (omega arith) c.in-Some-fit_next.ensures))))),
+    let label = c.from-label.result in
+    let e : ℕ × Atom ℕ = (label, c.in-Some-atom.atom.now) in
+    let next = picks_set c.loop-candidate.slots ps place (label, c.in-Some-atom.atom) c.loop-candidate.invariant.same in
+    let away : among (labels (picked ps)) label ≡ false = ap (λ (qs : Picks). among (labels (picked qs)) label) (sym c.loop-candidate.invariant.same) ∙ sym c.is_picked.ensures ∙ c.if-is_picked.false in
+    let there : atom_at store label ≡ Some c.in-Some-atom.atom.now = sym c.atom.ensures ∙ ap (option_map (λ (b : Bor (Atom ℕ)). b.now)) c.in-Some-atom.is in
+    (
+      subst (λ n. left (picks (slice_set c.loop-candidate.slots place (Some (label, c.in-Some-atom.atom)))) < n) c.decreases (subst (λ qs. left qs < left ps) (sym next) (left_less ps place e c.in-Some.ensures.within c.in-Some.ensures.none)),
+      (within.0, (within.1, (lit< tt, (lit< tt, (
+        subst (λ qs. IsPartial rule store qs c.in-Some-fit_next.next) (sym next) (partial_more rule store ps place e c.args.binding c.in-Some-fit_next.next c.requires.partial c.in-Some.ensures away there (place + 1) (omega arith) c.in-Some-fit_next.ensures),
+        subst (λ (qs : Picks). among (labels (picked qs)) own ≡ true) (sym next) (picked_own ps place own e c.in-Some.ensures.within c.in-Some.ensures.none c.requires.own),
+      ))))),
     )
 
 pub returns-in-Some-find_match : goal.returns-in-Some-find_match
-returns-in-Some-find_match g t c = grind (arith, common_steps, match_less, picks_set, c.in-Some.ensures, c.loop-entry.invariant.same, c.in-Some-find_match.ensures)
+returns-in-Some-find_match g t c = grind (arith, common_steps, match_less, picks_set, c.in-Some.ensures, c.loop-candidate.invariant.same, c.in-Some-find_match.ensures)
 
-pub loop-entry-preserved : goal.loop-entry-preserved
-loop-entry-preserved g t c =
+pub bounds-slots-place-in-loop-candidate : goal.bounds-slots-place-in-loop-candidate
+bounds-slots-place-in-loop-candidate g t c =
+    let ps = picks c.args.slots.now in
+    let next = picks_set c.loop-candidate.slots ps c.in-Some.place (c.from-label.result, c.in-Some-atom.atom) c.loop-candidate.invariant.same in
+    let back = picks_back c.find_match.new.slots ps c.in-Some.place (c.from-label.result, c.in-Some-atom.atom.now) (c.in_default-find_match.ensures.0 ∙ next) c.in-Some.ensures.none in
+    subst (λ n. c.in-Some.place < n) (length-set c.find_match.new.slots c.in-Some.place None) (slots_within (slice_set c.find_match.new.slots c.in-Some.place None) ps c.in-Some.place back c.in-Some.ensures)
+
+pub loop-candidate-preserved : goal.loop-candidate-preserved
+loop-candidate-preserved g t c =
     let rule = c.args.rule.now in
-    let store = c.args.store.now in
+    let store = g.P.Partners.store c.args.partners.now in
     let ps = picks c.args.slots.now in
     let place = c.in-Some.place in
-    let x = c.entry-item.result in
-    let next = picks_set c.loop-entry.slots ps place x c.loop-entry.invariant.same in
+    let label = c.from-label.result in
+    let next = picks_set c.loop-candidate.slots ps place (label, c.in-Some-atom.atom) c.loop-candidate.invariant.same in
+    let stored : atom_at store label ≡ Some c.in-Some-atom.atom.now = sym c.atom.ensures ∙ ap (option_map (λ (b : Bor (Atom ℕ)). b.now)) c.in-Some-atom.is in
     record {
-      same = picks_back c.find_match.new.slots ps place (x.0, x.1.now) (c.in_default-find_match.ensures.0 ∙ next) c.in-Some.ensures.none;
-      none = tried_more (λ (e : ℕ × Atom ℕ). NoMatch rule (listed store) (Fills (slice_set ps place (Some e)))) store c.loop-entry.entry-index x c.loop-entry-test.true c.entry-item.is c.loop-entry.invariant.none
-          (subst (λ qs. NoMatch rule (listed store) (Fills qs)) next c.in_default-find_match.ensures.1);
+      same = picks_back c.find_match.new.slots ps place (label, c.in-Some-atom.atom.now) (c.in_default-find_match.ensures.0 ∙ next) c.in-Some.ensures.none;
+      none = tried_more (Tried rule store ps place) c.candidates-candidate-items.result.now c.loop-candidate.candidate-index label c.loop-candidate-test.true c.from-label.ensures c.loop-candidate.invariant.none
+          (tried_one rule store ps place label c.in-Some-atom.atom.now stored (subst (λ qs. NoMatch rule store (Fills qs)) next c.in_default-find_match.ensures.1));
     }
 
 pub returns : goal.returns
 returns g t c =
     let rule = c.args.rule.now in
-    let store = c.args.store.now in
+    let store = g.P.Partners.store c.args.partners.now in
     let ps = picks c.args.slots.now in
-    let P = λ (e : ℕ × Atom ℕ). NoMatch rule (listed store) (Fills (slice_set ps c.in-Some.place (Some e))) in
-    let past : length store ≤ c.loop-entry.entry-index = c.loop-entry-test.false in
-    (c.loop-entry.invariant.same, no_more rule (listed store) ps c.in-Some.place c.args.binding c.requires.partial c.in-Some.ensures (subst (AllByRecursion P) (take_all c.loop-entry.entry-index (listed store) (rw length-map past)) c.loop-entry.invariant.none))
+    let place = c.in-Some.place in
+    let items = c.candidates-candidate-items.result.now in
+    (
+      c.loop-candidate.invariant.same,
+      no_more rule store (g.P.Partners.own c.args.partners.now) ps place (place + 1) c.args.binding items c.requires.partial c.in-Some.ensures (omega arith) c.requires.own c.candidates-candidate-items.ensures (subst (AllByRecursion (Tried rule store ps place)) (take_all c.loop-candidate.candidate-index items c.loop-candidate-test.false) c.loop-candidate.invariant.none),
+    )
