@@ -1,3 +1,4 @@
 pub mod Replayed
 pub mod Checked
 pub mod Stores
+pub mod Compared

@@ -4,4 +4,3 @@ pub mod Goals
 pub mod Partners
 pub mod Refusals
 pub mod Replays
-pub mod Stores

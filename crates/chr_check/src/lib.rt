@@ -15,9 +15,9 @@
 //!
 //! The kinds are tested event by event, and for one event in this order. [`laws`] has the laws of the definitions.
 //!
-//! The replay knows a store as a list of labels with their atoms, and searches for partners by plain enumeration. It
-//! shares no code with the server's own search, so that a mistake there isn't repeated here. A label is found by
-//! binary search and a ticket by its place; only a Drop looks at each entry of the store.
+//! The replay keeps the store in [`chr_partners::Partners`], and finds a label and a ticket by their places. For a Drop it
+//! searches by plain enumeration: at each head it tries the labels of the shortest list that the store has for the head's
+//! name and bound arguments. It shares no code with the server's own search, so that a mistake there isn't repeated here.
 #![tactic(auto)]
 
 mod checking;
@@ -25,6 +25,7 @@ pub mod fault;
 mod firing;
 mod goal;
 pub mod laws;
+mod partners;
 mod replay;
 mod storing;
 
