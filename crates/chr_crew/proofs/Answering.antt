@@ -1,4 +1,4 @@
--- What follows from what is said of an answer.
+-- What the answer of a call gives its caller.
 use Rattle.std.proofs.Common.{◌≡◌, true, false}
 use Rattle.std.specs.Prelude.{Result, Ok, Err, IfOk, IfErr, OnOk, is_err, MatchResult}
 

@@ -2,5 +2,9 @@ pub mod Answering
 pub mod Crossing
 pub mod Dealing
 pub mod Free
+pub mod Hands
+pub mod Held
+pub mod Kept
 pub mod Lists
 pub mod Runs
+pub mod Tallies

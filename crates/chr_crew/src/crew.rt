@@ -1,22 +1,23 @@
 //! Runs of a crew on a book.
-ghost use Rattle.std.specs.Prelude.{◌≡◌, ◌↔◌, ◌≤◌, ◌<◌, ◌+◌, ◌++◌, [], ℕ, List, map, length, get_or, sum_by, vec_len, vec_capacity, true, Some, IfOk, IfErr, IsTrue, OnOk, IsPermutation};
+ghost use Rattle.std.specs.Prelude.{◌≡◌, ◌≢◌, ◌↔◌, ◌≤◌, ◌<◌, ◌+◌, ◌++◌, [], ℕ, List, map, length, get_or, sum_by, vec_len, vec_capacity, true, Some, IfOk, IfErr, IsTrue, OnOk, IsPermutation};
 ghost use Rattle.std.specs.List.{flat_map};
 ghost use Rattle.chr_log.specs.Events.{Entry};
-ghost use Rattle.chr_calls.specs.Tickets.{AreQuiet};
+ghost use Rattle.chr_calls.specs.Tickets.{AreQuiet, IsNotHeld, state_of};
+ghost use Rattle.chr_calls.specs.Books.{BookState};
 ghost use Rattle.chr_pool.specs.Hands.{hand_id, hand_pushed};
-ghost use Rattle.chr_pool.specs.Inlets.{inlet_id};
+ghost use Rattle.chr_pool.specs.Inlets.{inlet_id, inlet_pushed};
 ghost use Rattle.chr_pool.specs.Pools.{OfOneMake, pool_pushed};
-ghost use Rattle.chr_book.specs.Shots.{IsShotOf, Continues};
 ghost use Rattle.chr_seats.specs.Accounts.{AreNamed, log_of, counts_in, made_upto, AreSeats};
 ghost use Rattle.chr_seats.specs.Holds.{HasHeadline};
-ghost use Rattle.chr_crew.specs.Pools.{AreFree, HaveRoom};
-ghost use Rattle.chr_crew.specs.Runs.{IsWorkedOn};
+ghost use Rattle.chr_crew.specs.Pools.{AreFree, HaveRoom, HavePushed, IsTallyOf, IsTallied};
+ghost use Rattle.chr_crew.specs.Runs.{IsKeptOf, IsWorkedOn, NoneHeld};
 ghost use Rattle.chr_crew.specs.declared.crew.End.TheVariants.{Quiet};
 ghost use Rattle.chr_crew.specs.declared.crew.Cause.TheVariants.{NoMemory};
 
+use crate::before::Before;
 use crate::gate::{Gate, Stop};
 use crate::worker::{Worker, join_all, part_all, work_all};
-use chr_book::{Book, Shot};
+use chr_book::Book;
 use chr_calls::TicketState;
 use chr_pool::{Hand, Inlet, Tally, gather, make};
 use chr_seats::{Blanks, Counts, Kept, PostLedger, Seats, WORKER_SEATS};
@@ -44,7 +45,7 @@ pub enum End {
 /// What a run leaves.
 #[derive(Drop)]
 pub struct Finished<A: Allocator> {
-    /// The book.
+    /// The book, of which no worker holds a ticket.
     pub book: Book<A>,
     /// What the pool counted, and the tickets left in it.
     pub tally: Tally<u64>,
@@ -59,7 +60,8 @@ pub struct Finished<A: Allocator> {
 pub enum Cause {
     /// E01: a growth was refused.
     NoMemory,
-    /// E26: a seat's counts aren't those under the lock, or the book doesn't go on from the one handed in.
+    /// E26: a seat's counts aren't those under the lock, or the book doesn't go on from the one handed in, or has other names or
+    /// another limit.
     WrongSeat,
 }
 
@@ -75,7 +77,7 @@ pub struct CrewFault<A: Allocator> {
 /// All that a run takes of memory before its workers start, besides the seats.
 #[derive(Drop)]
 struct Room<L1: PostLedger, L2: Ledger, A: Allocator> {
-    before: Shot<A>,
+    before: Before<A>,
     /// Those that wait or rest.
     tickets: Vec<u64, A>,
     hands: Vec<Hand<u64>>,
@@ -130,18 +132,18 @@ fn make_room<L1: PostLedger, L2: Ledger, A: Allocator + Copy>(
     n: usize,
 ) -> Result<Room<L1, L2, A>, AllocError>
     requires { (1 ≤ n) × (n ≤ 16) }
-    ensures shot { IfOk result (λ r. IsShotOf book.now r.before) }
+    ensures before { IfOk result (λ r. IsKeptOf book.now r.before) }
     ensures free { IfOk result (λ r. AreFree book.now.tickets r.tickets.items) }
     ensures pool { IfOk result (λ r. OfOneMake (map hand_id r.hands.items) (map inlet_id r.inlets.items)) }
     ensures hands { IfOk result (λ r. length r.hands.items ≡ n) }
-    ensures empty { IfOk result (λ r. flat_map hand_pushed r.hands.items ≡ []) }
+    ensures empty { IfOk result (λ r. (flat_map hand_pushed r.hands.items ≡ []) × (flat_map inlet_pushed r.inlets.items ≡ [])) }
     ensures room { IfOk result (λ r. HaveRoom (length r.tickets.items) r.hands.items) }
     ensures workers { IfOk result (λ r. (vec_len r.workers ≡ 0) × (16 ≤ vec_capacity r.workers)) }
     ensures counts { IfOk result (λ r. (vec_len r.counts ≡ 0) × (16 ≤ vec_capacity r.counts)) }
 {
     let workers = Vec::with_capacity(alloc, WORKER_SEATS)?;
     let counts = Vec::with_capacity(alloc, WORKER_SEATS)?;
-    let before = book.shot()?;
+    let before = Before::of(alloc, book)?;
     let tickets = free_tickets(alloc, book)?;
     let (hands, inlets) = make_pool(pool, n, tickets.len())?;
     Ok(Room {
@@ -194,7 +196,7 @@ fn count<L1: PostLedger, L2: Ledger, A: Allocator + Copy>(
     true
 }
 
-/// Takes the book from under the lock, and the hands from workers that have ended. All 32 seats are audited before they are
+/// Takes the book from under the lock, and the hands from workers that have worked. All 32 seats are audited before they are
 /// let go.
 fn let_go<L1: PostLedger, L2: Ledger, A: Allocator + Copy>(
     kept: Kept<L1, L2, A>,
@@ -208,8 +210,9 @@ fn let_go<L1: PostLedger, L2: Ledger, A: Allocator + Copy>(
     requires back { 16 ≤ vec_capacity seats.workers }
     requires empty { vec_len hands.old ≡ 0 }
     requires room { vec_len workers.old ≤ vec_capacity hands.old }
+    requires worked { (k : ℕ) (d : _) → k < length workers.old.items → IsTrue (get_or workers.old.items k d).has_worked }
     ensures book { kept ≡ Some result }
-    ensures hands { map hand_id hands.new.items ≡ map (λ w. hand_id w.hand) workers.old.items }
+    ensures hands { hands.new.items ≡ map (λ w. w.hand) workers.old.items }
     ensures posts { sum_by (λ s. s.counts.posts) (seats.workers.items ++ map (λ w. w.seat) workers.old.items) + sum_by (λ s. s.counts.posts) seats.sessions.items ≡ (made_upto 32 result.log).posts }
     ensures others { sum_by (λ s. s.counts.others) (seats.workers.items ++ map (λ w. w.seat) workers.old.items) + sum_by (λ s. s.counts.others) seats.sessions.items ≡ (made_upto 32 result.log).others }
 {
@@ -251,6 +254,7 @@ fn work_together<
     ensures all { IsTrue result.1 → vec_len room.new.counts ≡ length room.old.hands.items }
     ensures each { IsTrue result.1 → (k : ℕ) (d : _) → k < length room.old.hands.items → get_or room.new.counts.items k d ≡ counts_in result.0.log (k + 1) }
     ensures hands { map hand_id room.new.hands.items ≡ map hand_id room.old.hands.items }
+    ensures pushed { HavePushed room.old.tickets.items room.new.hands.items }
     ensures same { (room.new.before ≡ room.old.before) × (room.new.inlets ≡ room.old.inlets) }
 {
     let mut seats = seats;
@@ -275,8 +279,38 @@ fn end_of<A: Allocator + Copy>(book: &Book<A>) -> End
     }
 }
 
-/// Ends a run that has left the book, with the counts of its workers' seats. E26 where these aren't right, and where the
-/// book doesn't go on from the shot; then E01.
+/// Takes a ticket from a seat from 1 to `workers` that holds it. It is marked stray then.
+fn put_down_ticket<A: Allocator + Copy>(book: &mut Book<A>, ticket: u64, workers: u32)
+    ensures none { (seat : ℕ) → 1 ≤ seat → seat ≤ workers → IsNotHeld book.new.tickets seat ticket }
+    ensures others { (t : ℕ) → t ≢ ticket → state_of book.new.tickets t ≡ state_of book.old.tickets t }
+    ensures count { length book.new.tickets ≡ length book.old.tickets }
+    ensures log { book.new.log ≡ book.old.log }
+{
+    let TicketState::Held(seat) = book.state(ticket) else {
+        return;
+    };
+    if seat == 0 || workers < seat {
+        return;
+    }
+    let _ = book.put_down(seat, ticket);
+}
+
+/// Takes all tickets from the seats from 1 to `workers`.
+fn put_all_down<A: Allocator + Copy>(book: &mut Book<A>, workers: u32)
+    ensures none { NoneHeld workers book.new.tickets }
+    ensures log { book.new.log ≡ book.old.log }
+{
+    let quiet = book.quiet();
+    if quiet {
+        return;
+    }
+    for ticket in 1..book.next_ticket() {
+        put_down_ticket(book, ticket, workers);
+    }
+}
+
+/// Ends a run that has left the book, with the counts of its workers' seats. Takes all tickets from these first. E26 where the
+/// counts aren't right, and where the book doesn't go on from the one before; then E01.
 fn conclude<L1: PostLedger, L2: Ledger, A: Allocator + Copy, R: Wait>(
     rt: &R,
     pool: Global,
@@ -287,13 +321,15 @@ fn conclude<L1: PostLedger, L2: Ledger, A: Allocator + Copy, R: Wait>(
 ) -> Result<Finished<A>, CrewFault<A>>
     requires n { n ≤ 16 }
     requires pool { OfOneMake (map hand_id room.hands.items) (map inlet_id room.inlets.items) }
-    ensures same { IfOk result (λ f. (f.book ≡ book) × (f.counts ≡ room.counts)) }
+    ensures counts { IfOk result (λ f. (f.book.log ≡ book.log) × (f.counts ≡ room.counts)) }
     ensures right { OnOk result (IsTrue right) }
-    ensures goes_on { OnOk result (Continues book room.before n) }
+    ensures worked_on { (b : BookState) → IsKeptOf b room.before → IfOk result (λ f. IsWorkedOn n b f.book) }
+    ensures none_held { IfOk result (λ f. NoneHeld n f.book.tickets) }
     ensures headline { IfOk result (λ f. HasHeadline f.book) }
     ensures end { IfOk result (λ f. (f.end ≡ Quiet) ↔ AreQuiet f.book.tickets) }
     ensures tally { IfOk result (λ f. f.tally.taken + vec_len f.tally.left ≡ f.tally.pushed) }
-    ensures memory { IfErr result (λ e. e.cause ≡ NoMemory → (e.book ≡ book) × Continues book room.before n) }
+    ensures tallied { IfOk result (λ f. IsTallyOf (pool_pushed room.hands.items room.inlets.items) f.tally) }
+    ensures memory { (b : BookState) → IsKeptOf b room.before → IfErr result (λ e. e.cause ≡ NoMemory → IsWorkedOn n b e.book) }
 {
     let Room {
         before,
@@ -303,7 +339,9 @@ fn conclude<L1: PostLedger, L2: Ledger, A: Allocator + Copy, R: Wait>(
         workers: _,
         counts,
     } = room;
-    let right = right && book.continues(&before, n as u32);
+    let mut book = book;
+    put_all_down(&mut book, n as u32);
+    let right = right && before.leads_to(&book, n as u32);
     let end = end_of(&book);
     let cause = if right {
         Cause::NoMemory
@@ -322,12 +360,13 @@ fn conclude<L1: PostLedger, L2: Ledger, A: Allocator + Copy, R: Wait>(
 }
 
 /// Runs `n` workers on a book, by the seats 1 to `n`, until each has made `turns` calls on goals or no worker finds a
-/// ticket to take. Each ticket that waits or rests is pushed on a hand first. The memory of the pool is of `pool`.
+/// ticket to take. Each ticket that waits or rests is pushed on a hand first. A ticket that a worker holds at the end is taken
+/// from it, and marked stray. The memory of the pool is of `pool`.
 ///
 /// E01 comes where memory runs out before the workers start, with the book as it came, and at the end of the pool, with the
 /// book as the workers left it. A worker that runs out of memory ends, and its ticket is marked stray. Where no thread can
 /// be made for a worker, it works after another. E26 comes where a seat's counts aren't those under the lock, and where the
-/// book doesn't go on from the one handed in.
+/// book doesn't go on from the one handed in, or has other names or another limit.
 pub fn run_crew<
     L1: PostLedger + Send + Sync,
     L2: Ledger + Send + Sync,
@@ -348,11 +387,13 @@ pub fn run_crew<
     requires there { L1.loaded ≡ true }
     requires named { AreNamed blanks L1.name L1.parts L2.name L2.parts L1.history }
     ensures worked_on { IfOk result (λ f. IsWorkedOn n book f.book) }
+    ensures none_held { IfOk result (λ f. NoneHeld n f.book.tickets) }
     ensures headline { IfOk result (λ f. HasHeadline f.book) }
     ensures all { IfOk result (λ f. vec_len f.counts ≡ n) }
     ensures counts { IfOk result (λ f. (k : ℕ) (d : _) → k < n → get_or f.counts.items k d ≡ counts_in f.book.log (k + 1)) }
     ensures end { IfOk result (λ f. (f.end ≡ Quiet) ↔ AreQuiet f.book.tickets) }
     ensures tally { IfOk result (λ f. f.tally.taken + vec_len f.tally.left ≡ f.tally.pushed) }
+    ensures tallied { IfOk result (λ f. IsTallied book.tickets f.tally) }
     ensures memory { IfErr result (λ e. e.cause ≡ NoMemory → IsWorkedOn n book e.book) }
 {
     let cause = Cause::NoMemory;

@@ -3,6 +3,7 @@ ghost use Rattle.std.specs.Prelude.{◌≡◌, IfOk, IfSome};
 ghost use Rattle.chr_calls.specs.Batches.{claimed_of, following_of, sheet_of};
 ghost use Rattle.chr_pool.specs.Hands.{hand_id};
 ghost use Rattle.chr_seats.specs.Versions.{IsKnownAfter, IsKnownOf};
+ghost use Rattle.chr_crew.specs.Pools.{HasPushedOn};
 
 use crate::gate::{Gate, Stop};
 use crate::record::Record;
@@ -351,7 +352,8 @@ fn push_new<L1: PostLedger, L2: Ledger, A: Allocator + Copy, R: Wait>(
     record: &mut Record,
     fired: Fired,
 )
-    ensures { hand_id hand.new ≡ hand_id hand.old }
+    ensures hand { hand_id hand.new ≡ hand_id hand.old }
+    ensures pushed { HasPushedOn hand.old hand.new }
 {
     for k in 0..fired.count {
         let ticket = fired.first.wrapping_add(k as u64);
@@ -401,6 +403,7 @@ pub fn work_on_ticket<L1: PostLedger, L2: Ledger, A: Allocator + Copy, R: Wait, 
     ticket: u64,
 ) -> Left
     ensures hand { hand_id hand.new ≡ hand_id hand.old }
+    ensures pushed { HasPushedOn hand.old hand.new }
     ensures number { seat.new.number ≡ seat.old.number }
     ensures posts { seat.new.counts.posts ≡ seat.old.counts.posts }
 {

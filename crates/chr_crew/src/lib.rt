@@ -19,16 +19,19 @@
 //! crew is closed, a worker puts its goal down before its next call.
 //!
 //! [`run_crew`] runs up to sixteen workers on a book, each in a thread of its own, until they have made so
-//! many calls or find nothing to take. Its contract says of the book that comes back that it has the headline of `chr_calls`
-//! and goes on from the one handed in by the work of these seats alone, none of it a post; that the counts are what each
-//! worker's seat has made; and that the run is quiet exactly where no ticket is open. It compares the book with a shot made
-//! before, so it says so of any schedule.
+//! many calls or find nothing to take. Its contract says of the book that comes back that it has the headline of `chr_calls`,
+//! and the rules, the names and the limit of the one handed in; that it goes on from there by the work of these seats alone,
+//! none of it a post, which leads from the goals, the store and the next label of the one to those of the other; and that no
+//! worker holds a ticket. The counts are what each worker's seat has made. The tally is of all tickets that waited or rested,
+//! each pushed once, and of others that firings left: each was taken, or is left in the pool. The run is quiet exactly where no
+//! ticket is open. It compares the book with what it kept of it before, so it says so of any schedule.
 //!
 //! A [`Rack`] lends the seats and inlets of sessions.
 //!
 //! No contract says that a worker gets on, that two workers judge at once, or that a sleeper wakes.
 #![tactic(auto)]
 
+mod before;
 mod crew;
 mod gate;
 mod goal;

@@ -1,6 +1,7 @@
 //! A worker.
 ghost use Rattle.std.specs.Prelude.{◌≡◌};
-ghost use Rattle.chr_pool.specs.Hands.{hand_id};
+ghost use Rattle.chr_pool.specs.Hands.{hand_id, hand_pushed};
+ghost use Rattle.chr_crew.specs.Pools.{HasPushedOn};
 
 use crate::gate::{Gate, Stop};
 use crate::goal::{Left, tell, work_on_ticket};
@@ -30,7 +31,8 @@ fn find<L1: PostLedger, L2: Ledger, A: Allocator + Copy, R: Wait>(
     hand: &mut Hand<u64>,
     first_look: FirstLook,
 ) -> Option<u64>
-    ensures { hand_id hand.new ≡ hand_id hand.old }
+    ensures hand { hand_id hand.new ≡ hand_id hand.old }
+    ensures pushed { hand_pushed hand.new ≡ hand_pushed hand.old }
 {
     let first = match first_look {
         FirstLook::Own => None,
@@ -76,6 +78,7 @@ fn look_once<L1: PostLedger, L2: Ledger, A: Allocator + Copy, R: Wait, G: Gate>(
     record: &mut Record,
 ) -> Next
     ensures hand { hand_id hand.new ≡ hand_id hand.old }
+    ensures pushed { HasPushedOn hand.old hand.new }
     ensures number { seat.new.number ≡ seat.old.number }
     ensures posts { seat.new.counts.posts ≡ seat.old.counts.posts }
 {
@@ -117,7 +120,8 @@ fn look_once<L1: PostLedger, L2: Ledger, A: Allocator + Copy, R: Wait, G: Gate>(
 /// and where no turn is left or the crew is closed, the ticket is put down or marked stray. Whether the crew is closed is
 /// looked at before each call. It ends as `stop` says, and on E26.
 ///
-/// By its contract the seat's entries are no posts, and the hand is still of the same pool.
+/// By its contract the seat's entries are no posts, and the hand is still of the same pool and has taken back nothing that it
+/// had pushed.
 pub fn work<L1: PostLedger, L2: Ledger, A: Allocator + Copy, R: Wait, G: Gate>(
     rt: &R,
     shared: &Shared<L1, L2, A>,
@@ -127,6 +131,7 @@ pub fn work<L1: PostLedger, L2: Ledger, A: Allocator + Copy, R: Wait, G: Gate>(
     stop: Stop,
 )
     ensures hand { hand_id hand.new ≡ hand_id hand.old }
+    ensures pushed { HasPushedOn hand.old hand.new }
     ensures number { seat.new.number ≡ seat.old.number }
     ensures posts { seat.new.counts.posts ≡ seat.old.counts.posts }
 {

@@ -1,6 +1,7 @@
 //! Workers: a hand and a seat each.
-ghost use Rattle.std.specs.Prelude.{◌≡◌, ◌≤◌, ◌<◌, ◌+◌, ◌++◌, ℕ, map, length, get_or, vec_len, vec_capacity};
+ghost use Rattle.std.specs.Prelude.{◌≡◌, ◌≤◌, ◌<◌, ◌+◌, ◌++◌, ℕ, map, length, get_or, vec_len, vec_capacity, IsTrue};
 ghost use Rattle.chr_pool.specs.Hands.{hand_id};
+ghost use Rattle.chr_crew.specs.Pools.{HasPushedOn};
 
 use crate::gate::{Gate, Stop};
 use crate::work::work;
@@ -18,6 +19,8 @@ use std::thread::Threads;
 pub struct Worker<L1: PostLedger, L2: Ledger> {
     pub hand: Hand<u64>,
     pub seat: Seat<L1, L2>,
+    /// Whether it has worked.
+    pub has_worked: bool,
 }
 
 impl<L1: PostLedger, L2: Ledger> Worker<L1, L2> {
@@ -30,11 +33,18 @@ impl<L1: PostLedger, L2: Ledger> Worker<L1, L2> {
         stop: Stop,
     )
         ensures hand { hand_id self.new.hand ≡ hand_id self.old.hand }
+        ensures pushed { HasPushedOn self.old.hand self.new.hand }
         ensures number { self.new.seat.number ≡ self.old.seat.number }
         ensures posts { self.new.seat.counts.posts ≡ self.old.seat.counts.posts }
+        ensures worked { IsTrue self.new.has_worked }
     {
-        let Worker { hand, seat } = self;
+        let Worker {
+            hand,
+            seat,
+            has_worked,
+        } = self;
         work(rt, shared, hand, seat, gate, stop);
+        *has_worked = true;
     }
 }
 
@@ -47,7 +57,7 @@ pub fn join_all<L1: PostLedger, L2: Ledger, A: Allocator>(
     requires enough { vec_len hands.old ≤ vec_len seats.old }
     requires empty { vec_len workers.old ≡ 0 }
     requires room { vec_len hands.old ≤ vec_capacity workers.old }
-    ensures hands { map (λ w. hand_id w.hand) workers.new.items ≡ map hand_id hands.old.items }
+    ensures hands { map (λ w. w.hand) workers.new.items ≡ hands.old.items }
     ensures count { length workers.new.items ≡ length hands.old.items }
     ensures seats { map (λ w. w.seat) workers.new.items ++ seats.new.items ≡ seats.old.items }
     ensures none { vec_len hands.new ≡ 0 }
@@ -57,11 +67,15 @@ pub fn join_all<L1: PostLedger, L2: Ledger, A: Allocator>(
     while !hands.is_empty() {
         let hand = hands.remove(0);
         let seat = seats.remove(0);
-        workers.push_reserved(Worker { hand, seat });
+        workers.push_reserved(Worker {
+            hand,
+            seat,
+            has_worked: false,
+        });
     }
 }
 
-/// Takes the hands and the seats back from workers that have ended, in order.
+/// Takes the hands and the seats back from workers that have worked, in order.
 pub fn part_all<L1: PostLedger, L2: Ledger, A: Allocator>(
     workers: &mut Vec<Worker<L1, L2>, A>,
     seats: &mut Vec<Seat<L1, L2>, A>,
@@ -70,11 +84,16 @@ pub fn part_all<L1: PostLedger, L2: Ledger, A: Allocator>(
     requires empty { vec_len hands.old ≡ 0 }
     requires room { vec_len workers.old ≤ vec_capacity hands.old }
     requires back { vec_len seats.old + vec_len workers.old ≤ vec_capacity seats.old }
-    ensures hands { map hand_id hands.new.items ≡ map (λ w. hand_id w.hand) workers.old.items }
+    requires worked { (k : ℕ) (d : _) → k < length workers.old.items → IsTrue (get_or workers.old.items k d).has_worked }
+    ensures hands { hands.new.items ≡ map (λ w. w.hand) workers.old.items }
     ensures seats { seats.new.items ≡ seats.old.items ++ map (λ w. w.seat) workers.old.items }
 {
     while !workers.is_empty() {
-        let Worker { hand, seat } = workers.remove(0);
+        let Worker {
+            hand,
+            seat,
+            has_worked: _,
+        } = workers.remove(0);
         hands.push_reserved(hand);
         seats.push_reserved(seat);
     }
@@ -90,7 +109,9 @@ pub fn work_all<
     G: Gate + Sync,
 >(rt: &R, shared: &Shared<L1, L2, A>, workers: &mut [Worker<L1, L2>], gate: &G, stop: Stop)
     ensures hands { (k : ℕ) (d : _) → k < length workers.old → hand_id (get_or workers.new k d).hand ≡ hand_id (get_or workers.old k d).hand }
+    ensures pushed { (k : ℕ) (d : _) → k < length workers.old → HasPushedOn (get_or workers.old k d).hand (get_or workers.new k d).hand }
     ensures numbers { (k : ℕ) (d : _) → k < length workers.old → (get_or workers.new k d).seat.number ≡ (get_or workers.old k d).seat.number }
+    ensures worked { (k : ℕ) (d : _) → k < length workers.old → IsTrue (get_or workers.new k d).has_worked }
 {
     thread::for_each_mut(
         rt,

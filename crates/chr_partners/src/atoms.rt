@@ -51,6 +51,7 @@ impl<A: Allocator> Model for Atoms<A> {
 }
 
 /// Finds what a slot has, where that is a label's.
+#[inline(always)]
 fn owned<'s, A: Allocator>(
     held: &'s Slab<Held<A>, A>,
     slot: u32,
@@ -69,6 +70,7 @@ fn owned<'s, A: Allocator>(
 }
 
 /// Finds what a label has.
+#[inline(always)]
 fn find<'s, A: Allocator>(
     held: &'s Slab<Held<A>, A>,
     slots: &[u32],
@@ -152,6 +154,7 @@ impl<A: Allocator + Copy> Atoms<A> {
     }
 
     /// Gives what a label has.
+    #[inline(always)]
     pub fn held(&self, label: Label) -> Option<&Held<A>>
         ensures { MatchOption result (atom_at self.now.store label ≡ None) (λ held. IsHeld self.now label held.now) }
     {

@@ -7,7 +7,7 @@ use Rattle.chr_crew.proofs.Dealing.{append_none}
 use Rattle.chr_crew.proofs.crew.make_room.Goals as goal
 
 pub returns-clause-empty : goal.returns-clause-empty
-returns-clause-empty g c = (append_none (flat_map hand_pushed c.in_ok-hands.hands.items) (flat_map inlet_pushed c.in_ok-hands.inlets.items) c.in_ok-hands.ensures.empty).0
+returns-clause-empty g c = append_none (flat_map hand_pushed c.in_ok-hands.hands.items) (flat_map inlet_pushed c.in_ok-hands.inlets.items) c.in_ok-hands.ensures.empty
 
 pub returns-clause-room : goal.returns-clause-room
 returns-clause-room g c =

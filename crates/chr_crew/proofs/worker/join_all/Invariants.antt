@@ -1,10 +1,9 @@
 use Rattle.std.proofs.Common.{◌≡◌, ◌+◌, ◌≤◌, ◌++◌, length, map, vec_capacity}
-use Rattle.chr_pool.specs.Hands.{hand_id}
 use Rattle.chr_crew.proofs.worker.join_all.Given as goal
 
 abbrev pub invariant-loop-hands : goal.invariant-loop-hands
 invariant-loop-hands g l =
-    (map (λ w. hand_id w.hand) l.workers.items ++ map hand_id l.hands.items ≡ map hand_id l.initial.hands.items)
+    (map (λ w. w.hand) l.workers.items ++ l.hands.items ≡ l.initial.hands.items)
     × (map (λ w. w.seat) l.workers.items ++ l.seats.items ≡ l.initial.seats.items)
     × (length l.workers.items + length l.hands.items ≡ length l.initial.hands.items)
     × (length l.initial.hands.items ≤ vec_capacity l.workers)

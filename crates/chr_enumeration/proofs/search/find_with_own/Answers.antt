@@ -24,11 +24,16 @@ find_match-requires g c =
     let label = c.own-label.result in
     let start = partial_start rule store n c.variables.result c.free-free.result c.heads-heads.ensures.count c.free-free.ensures c.variables.ensures.count in
     let more = partial_more rule store (replicate n None) c.loop-head.head (c.own-label.result, c.args.atom.now) c.free-free.result c.in-Some.binding start (none_open n c.loop-head.head c.loop-head-test.true) (none_among n c.own-label.result) stored (c.loop-head.head + 1) (omega arith) c.in-Some.ensures in
-    let slots = picks_one n c.loop-head.head (c.own-label.result, c.args.atom) c.heads-heads.ensures.few in
-    (omega arith, (omega arith, (
-      subst (λ qs. IsPartial rule store qs c.in-Some.binding) (sym slots) more,
-      subst (λ (qs : Picks). among (labels (picked qs)) (g.P.Partners.own c.args.partners.now) ≡ true) (sym slots) (picked_this (replicate n None) c.loop-head.head (g.P.Partners.own c.args.partners.now) (c.own-label.result, c.args.atom.now) (none_open n c.loop-head.head c.loop-head-test.true) c.own-label.ensures),
-    )))
+    let slots = picks_one n c.loop-head.head (c.own-label.result, c.args.atom) c.heads-heads.ensures.few in (
+      omega arith,
+      (
+        omega arith,
+        (
+          subst (λ qs. IsPartial rule store qs c.in-Some.binding) (sym slots) more,
+          subst (λ (qs : Picks). among (labels (picked qs)) (g.P.Partners.own c.args.partners.now) ≡ true) (sym slots) (picked_this (replicate n None) c.loop-head.head (g.P.Partners.own c.args.partners.now) (c.own-label.result, c.args.atom.now) (none_open n c.loop-head.head c.loop-head-test.true) c.own-label.ensures),
+        ),
+      ),
+    )
 
 pub returns-in-Some-find_match : goal.returns-in-Some-find_match
 returns-in-Some-find_match g c =

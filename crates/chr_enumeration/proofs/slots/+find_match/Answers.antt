@@ -58,13 +58,24 @@ find_match-requires g t c κs within =
     let e : ℕ × Atom ℕ = (label, c.in-Some-atom.atom.now) in
     let next = picks_set c.loop-candidate.slots ps place (label, c.in-Some-atom.atom) c.loop-candidate.invariant.same in
     let away : among (labels (picked ps)) label ≡ false = ap (λ (qs : Picks). among (labels (picked qs)) label) (sym c.loop-candidate.invariant.same) ∙ sym c.is_picked.ensures ∙ c.if-is_picked.false in
-    let there : atom_at store label ≡ Some c.in-Some-atom.atom.now = sym c.atom.ensures ∙ ap (option_map (λ (b : Bor (Atom ℕ)). b.now)) c.in-Some-atom.is in
-    (
+    let there : atom_at store label ≡ Some c.in-Some-atom.atom.now = sym c.atom.ensures ∙ ap (option_map (λ (b : Bor (Atom ℕ)). b.now)) c.in-Some-atom.is in (
       subst (λ n. left (picks (slice_set c.loop-candidate.slots place (Some (label, c.in-Some-atom.atom)))) < n) c.decreases (subst (λ qs. left qs < left ps) (sym next) (left_less ps place e c.in-Some.ensures.within c.in-Some.ensures.none)),
-      (within.0, (within.1, (lit< tt, (lit< tt, (
-        subst (λ qs. IsPartial rule store qs c.in-Some-fit_next.next) (sym next) (partial_more rule store ps place e c.args.binding c.in-Some-fit_next.next c.requires.partial c.in-Some.ensures away there (place + 1) (omega arith) c.in-Some-fit_next.ensures),
-        subst (λ (qs : Picks). among (labels (picked qs)) own ≡ true) (sym next) (picked_own ps place own e c.in-Some.ensures.within c.in-Some.ensures.none c.requires.own),
-      ))))),
+      (
+        within.0,
+        (
+          within.1,
+          (
+            lit< tt,
+            (
+              lit< tt,
+              (
+                subst (λ qs. IsPartial rule store qs c.in-Some-fit_next.next) (sym next) (partial_more rule store ps place e c.args.binding c.in-Some-fit_next.next c.requires.partial c.in-Some.ensures away there (place + 1) (omega arith) c.in-Some-fit_next.ensures),
+                subst (λ (qs : Picks). among (labels (picked qs)) own ≡ true) (sym next) (picked_own ps place own e c.in-Some.ensures.within c.in-Some.ensures.none c.requires.own),
+              ),
+            ),
+          ),
+        ),
+      ),
     )
 
 pub returns-in-Some-find_match : goal.returns-in-Some-find_match
@@ -98,8 +109,7 @@ returns g t c =
     let store = g.P.Partners.store c.args.partners.now in
     let ps = picks c.args.slots.now in
     let place = c.in-Some.place in
-    let items = c.candidates-candidate-items.result.now in
-    (
+    let items = c.candidates-candidate-items.result.now in (
       c.loop-candidate.invariant.same,
       no_more rule store (g.P.Partners.own c.args.partners.now) ps place (place + 1) c.args.binding items c.requires.partial c.in-Some.ensures (omega arith) c.requires.own c.candidates-candidate-items.ensures (subst (AllByRecursion (Tried rule store ps place)) (take_all c.loop-candidate.candidate-index items c.loop-candidate-test.false) c.loop-candidate.invariant.none),
     )
