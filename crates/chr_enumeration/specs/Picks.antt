@@ -11,6 +11,7 @@ use Rattle.chr_guard.specs.Bindings.{Extends}
 use Rattle.chr_guard.specs.Instances.{IsInstance}
 use Rattle.chr_guard.specs.Matching.{IsAtHead, IsFit, IsInstanceUnder}
 use Rattle.chr_model.specs.Stores.{Store, labels, atoms, among, Distinct, Carry}
+use Rattle.chr_enumeration.specs.Partners.{HasAllBut}
 use Rattle.chr_enumeration.specs.declared.slots.Match.{Match}
 
 -- what is picked for the heads, in head order
@@ -54,6 +55,13 @@ HeadIs rule number atom v = IsAtHead rule v (number, atom)
 abbrev pub MayBeHead : Simpagation ℕ → ℕ → List (Option (Value ℕ)) → Atom ℕ → Type 0
 MayBeHead rule number binding atom =
     (v : Valuation) × Extends v binding × HeadIs rule number atom v
+
+-- nothing is picked for the head at the place, and the list has the labels of all entries that it
+-- may be, but for the own one
+pub record IsNext (rule : Simpagation ℕ) (own : ℕ) (store : Store) (ps : Picks)
+    (binding : List (Option (Value ℕ))) (place : ℕ) (labels : List ℕ) : Type 0 where
+  pub is_open : IsOpen ps place
+  pub has : HasAllBut own store (MayBeHead rule (place + 1) binding) labels
 
 -- under the valuation the heads are the atoms that are picked for them
 abbrev pub AllFit : Simpagation ℕ → Picks → Valuation → Type 0

@@ -3,7 +3,7 @@
 //!
 //! [`find_with_partners`] is exact both ways: it finds a labelled instance that has the constraint, and it finds none only
 //! where there is none. It takes no memory. It uses no join plan: for each head of each rule it tries the constraint, and
-//! then for each other head the candidates of one list, the shortest that there is.
+//! then, one after another, the open head that has the shortest list of candidates.
 //!
 //! A search knows a store by [`Partners`] alone: the constraint under a label, and lists of labels by predicate, place and
 //! value. A list need only have all labels that it is to have. Others cost time and change no answer, since each

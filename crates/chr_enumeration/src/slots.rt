@@ -4,13 +4,13 @@ ghost use Rattle.chr_value.specs.Bounds.{most_heads};
 ghost use Rattle.chr_guard.specs.Bindings.{Narrows, NoneUnder};
 ghost use Rattle.chr_model.specs.Stores.{among, labels};
 ghost use Rattle.chr_enumeration.specs.Partners.{HasAllBut};
-ghost use Rattle.chr_enumeration.specs.Picks.{picks, picked, IsOpen, AllPicked, Fills, HeadIs, MayBeHead, IsPartial, IsMatch, NoMatch};
+ghost use Rattle.chr_enumeration.specs.Picks.{picks, picked, AllPicked, IsNext, Fills, HeadIs, MayBeHead, IsPartial, IsMatch, NoMatch};
 
 use crate::partners::Partners;
 use chr_guard::instance::instance_from;
 use chr_guard::{Binding, fit_head};
 use chr_log::{Label, Labels};
-use chr_rule::{Rule, RuleAtom, Term};
+use chr_rule::Rule;
 use chr_value::Atom;
 use std::alloc::Allocator;
 
@@ -23,7 +23,7 @@ pub struct Match<'s, A: Allocator> {
     pub binding: Binding<'s, A>,
 }
 
-/// Whether a label is picked for some head.
+/// Returns whether a label is picked for some head.
 fn is_picked<A: Allocator>(slots: &[Option<(Label, &Atom<A>)>], label: Label) -> bool
     ensures { result ≡ among (labels (picked (picks slots.now))) label }
 {
@@ -37,48 +37,7 @@ fn is_picked<A: Allocator>(slots: &[Option<(Label, &Atom<A>)>], label: Label) ->
     false
 }
 
-/// Whether a head has an argument that is known: a value, or a variable that is bound.
-fn is_joined<A: Allocator + Copy>(head: &RuleAtom<A>, binding: &Binding<'_, A>) -> bool {
-    for term in &head.terms {
-        match term {
-            Term::Given(_) => return true,
-            Term::Open(_) => {}
-            Term::Var(x) => match binding.at(*x) {
-                None => {}
-                _ => return true,
-            },
-        }
-    }
-    false
-}
-
-/// The head that is tried next, of those for which nothing is picked: the first with an argument that is known, else the
-/// first.
-fn next_head<A: Allocator + Copy>(
-    rule: &Rule<A>,
-    slots: &[Option<(Label, &Atom<A>)>],
-    binding: &Binding<'_, A>,
-) -> Option<usize>
-    ensures { MatchOption result (AllPicked (picks slots.now)) (IsOpen (picks slots.now)) }
-{
-    let mut first = None;
-    for (place, slot) in slots.iter().enumerate() {
-        if slot.is_some() {
-            continue;
-        }
-        if let Some(head) = rule.head(place + 1) {
-            if is_joined(head, binding) {
-                return Some(place);
-            }
-        }
-        if first.is_none() {
-            first = Some(place);
-        }
-    }
-    first
-}
-
-/// The binding under which the head of a number, from 1, is an atom as well. None where there is none.
+/// Returns the binding under which the head of a number, from 1, is an atom as well. None where there is none.
 pub fn fit_next<'s, A: Allocator + Copy>(
     rule: &Rule<A>,
     binding: &Binding<'s, A>,
@@ -99,7 +58,7 @@ pub fn fit_next<'s, A: Allocator + Copy>(
     Some(next)
 }
 
-/// The labels that are picked, in head order.
+/// Returns the labels that are picked, in head order.
 fn labels_of<A: Allocator>(slots: &[Option<(Label, &Atom<A>)>]) -> Labels
     requires { length slots.now ≤ most_heads }
     ensures { result.items ≡ labels (picked (picks slots.now)) }
@@ -113,7 +72,7 @@ fn labels_of<A: Allocator>(slots: &[Option<(Label, &Atom<A>)>]) -> Labels
     found
 }
 
-/// The instance that the entries make which are picked for all heads, if they make one.
+/// Returns the instance that the entries make which are picked for all heads, if they make one.
 fn whole<'s, A: Allocator + Copy, P: Partners<A>>(
     rule: &Rule<A>,
     partners: &P,
@@ -160,7 +119,31 @@ fn candidates<'s, 'v, A: Allocator + Copy, P: Partners<A>>(
     shortest
 }
 
-/// The first labelled instance of a rule that has what is picked, where the binding is that of the picked heads'
+/// Returns the place of an open head, which is one for which nothing is picked, with its candidates: the first of those that
+/// have the fewest. None where there is no open head.
+fn next_head<'s, 'v, A: Allocator + Copy, P: Partners<A>>(
+    rule: &'v Rule<A>,
+    partners: &'s P,
+    slots: &[Option<(Label, &Atom<A>)>],
+    binding: &Binding<'v, A>,
+) -> Option<(usize, &'s [u32])>
+    ensures { MatchOption result (AllPicked (picks slots.now)) (λ next. IsNext rule.now (P.own partners.now) (P.store partners.now) (picks slots.now) binding.now next.0 next.1.now) }
+{
+    let mut next: Option<(usize, &'s [u32])> = None;
+    for (place, slot) in slots.iter().enumerate() {
+        if slot.is_some() {
+            continue;
+        }
+        let labels = candidates(rule, place + 1, partners, binding);
+        match next {
+            Some((_, fewest)) if fewest.len() <= labels.len() => {}
+            _ => next = Some((place, labels)),
+        }
+    }
+    next
+}
+
+/// Returns the first labelled instance of a rule that has what is picked, where the binding is that of the picked heads'
 /// variables. Where there is none the slots are as before.
 pub fn find_match<'s, A: Allocator + Copy, P: Partners<A>>(
     rule: &Rule<A>,
@@ -172,10 +155,10 @@ pub fn find_match<'s, A: Allocator + Copy, P: Partners<A>>(
     requires own { among (labels (picked (picks slots.old))) (P.own partners.now) ≡ true }
     ensures { let ps = picks slots.old in MatchOption result ((picks slots.new ≡ ps) × NoMatch rule.now (P.store partners.now) (Fills ps)) (IsMatch rule.now (P.store partners.now) (Fills ps)) }
 {
-    let Some(place) = next_head(rule, slots, &binding) else {
+    let Some((place, labels)) = next_head(rule, partners, slots, &binding) else {
         return whole(rule, partners, slots, binding);
     };
-    for candidate in candidates(rule, place + 1, partners, &binding) {
+    for candidate in labels {
         let label = u64::from(*candidate);
         if is_picked(slots, label) {
             continue;

@@ -16,8 +16,8 @@ loop-candidate-preserved-then-is_picked g t c =
     let there : among (labels (picked ps)) label ≡ true = ap (λ (qs : Picks). among (labels (picked qs)) label) (sym c.loop-candidate.invariant.same) ∙ sym c.is_picked.ensures ∙ c.if-is_picked.true in
     record {
       same = c.loop-candidate.invariant.same;
-      none = tried_more (Tried c.args.rule.now (g.P.Partners.store c.args.partners.now) ps c.in-Some.place) c.candidates-candidate-items.result.now c.loop-candidate.candidate-index label c.loop-candidate-test.true c.from-label.ensures c.loop-candidate.invariant.none
-          (λ a at. no_repeat c.args.rule.now (g.P.Partners.store c.args.partners.now) ps c.in-Some.place (label, a) c.in-Some.ensures there);
+      none = tried_more (Tried c.args.rule.now (g.P.Partners.store c.args.partners.now) ps c.in-Some.place) c.in-Some.labels.now c.loop-candidate.candidate-index label c.loop-candidate-test.true c.from-label.ensures c.loop-candidate.invariant.none
+          (λ a at. no_repeat c.args.rule.now (g.P.Partners.store c.args.partners.now) ps c.in-Some.place (label, a) c.in-Some.ensures.is_open there);
     }
 
 pub loop-candidate-preserved-in_default-atom : goal.loop-candidate-preserved-in_default-atom
@@ -27,7 +27,7 @@ loop-candidate-preserved-in_default-atom g t c =
     let none = c.atom.ensures in
     record {
       same = c.loop-candidate.invariant.same;
-      none = tried_more (Tried c.args.rule.now store (picks c.args.slots.now) c.in-Some.place) c.candidates-candidate-items.result.now c.loop-candidate.candidate-index label c.loop-candidate-test.true c.from-label.ensures c.loop-candidate.invariant.none
+      none = tried_more (Tried c.args.rule.now store (picks c.args.slots.now) c.in-Some.place) c.in-Some.labels.now c.loop-candidate.candidate-index label c.loop-candidate-test.true c.from-label.ensures c.loop-candidate.invariant.none
           (λ a at. (let z : None ≡ Some a = ap (option_map (λ (b : Bor (Atom ℕ)). b.now)) (sym c.in_default-atom.is) ∙ c.atom.ensures ∙ at in absurd (cc)));
     }
 
@@ -40,12 +40,12 @@ loop-candidate-preserved-in_default-fit_next g t c =
     let stored : atom_at store label ≡ Some c.in-Some-atom.atom.now = sym c.atom.ensures ∙ ap (option_map (λ (b : Bor (Atom ℕ)). b.now)) c.in-Some-atom.is in
     record {
       same = c.loop-candidate.invariant.same;
-      none = tried_more (Tried rule store ps c.in-Some.place) c.candidates-candidate-items.result.now c.loop-candidate.candidate-index label c.loop-candidate-test.true c.from-label.ensures c.loop-candidate.invariant.none
-          (tried_one rule store ps c.in-Some.place label c.in-Some-atom.atom.now stored (no_fit_more rule store ps c.in-Some.place (label, c.in-Some-atom.atom.now) c.args.binding c.requires.partial c.in-Some.ensures (c.in-Some.place + 1) (omega arith) c.in_default-fit_next.ensures));
+      none = tried_more (Tried rule store ps c.in-Some.place) c.in-Some.labels.now c.loop-candidate.candidate-index label c.loop-candidate-test.true c.from-label.ensures c.loop-candidate.invariant.none
+          (tried_one rule store ps c.in-Some.place label c.in-Some-atom.atom.now stored (no_fit_more rule store ps c.in-Some.place (label, c.in-Some-atom.atom.now) c.args.binding c.requires.partial c.in-Some.ensures.is_open (c.in-Some.place + 1) (omega arith) c.in_default-fit_next.ensures));
     }
 
 pub bounds-slots-place : goal.bounds-slots-place
-bounds-slots-place g t c = slots_within c.loop-candidate.slots (picks c.args.slots.now) c.in-Some.place c.loop-candidate.invariant.same c.in-Some.ensures
+bounds-slots-place g t c = slots_within c.loop-candidate.slots (picks c.args.slots.now) c.in-Some.place c.loop-candidate.invariant.same c.in-Some.ensures.is_open
 
 pub find_match-requires : goal.find_match-requires
 find_match-requires g t c κs within =
@@ -59,7 +59,7 @@ find_match-requires g t c κs within =
     let next = picks_set c.loop-candidate.slots ps place (label, c.in-Some-atom.atom) c.loop-candidate.invariant.same in
     let away : among (labels (picked ps)) label ≡ false = ap (λ (qs : Picks). among (labels (picked qs)) label) (sym c.loop-candidate.invariant.same) ∙ sym c.is_picked.ensures ∙ c.if-is_picked.false in
     let there : atom_at store label ≡ Some c.in-Some-atom.atom.now = sym c.atom.ensures ∙ ap (option_map (λ (b : Bor (Atom ℕ)). b.now)) c.in-Some-atom.is in (
-      subst (λ n. left (picks (slice_set c.loop-candidate.slots place (Some (label, c.in-Some-atom.atom)))) < n) c.decreases (subst (λ qs. left qs < left ps) (sym next) (left_less ps place e c.in-Some.ensures.within c.in-Some.ensures.none)),
+      subst (λ n. left (picks (slice_set c.loop-candidate.slots place (Some (label, c.in-Some-atom.atom)))) < n) c.decreases (subst (λ qs. left qs < left ps) (sym next) (left_less ps place e c.in-Some.ensures.is_open.within c.in-Some.ensures.is_open.none)),
       (
         within.0,
         (
@@ -69,8 +69,8 @@ find_match-requires g t c κs within =
             (
               lit< tt,
               (
-                subst (λ qs. IsPartial rule store qs c.in-Some-fit_next.next) (sym next) (partial_more rule store ps place e c.args.binding c.in-Some-fit_next.next c.requires.partial c.in-Some.ensures away there (place + 1) (omega arith) c.in-Some-fit_next.ensures),
-                subst (λ (qs : Picks). among (labels (picked qs)) own ≡ true) (sym next) (picked_own ps place own e c.in-Some.ensures.within c.in-Some.ensures.none c.requires.own),
+                subst (λ qs. IsPartial rule store qs c.in-Some-fit_next.next) (sym next) (partial_more rule store ps place e c.args.binding c.in-Some-fit_next.next c.requires.partial c.in-Some.ensures.is_open away there (place + 1) (omega arith) c.in-Some-fit_next.ensures),
+                subst (λ (qs : Picks). among (labels (picked qs)) own ≡ true) (sym next) (picked_own ps place own e c.in-Some.ensures.is_open.within c.in-Some.ensures.is_open.none c.requires.own),
               ),
             ),
           ),
@@ -79,14 +79,14 @@ find_match-requires g t c κs within =
     )
 
 pub returns-in-Some-find_match : goal.returns-in-Some-find_match
-returns-in-Some-find_match g t c = grind (arith, common_steps, match_less, picks_set, c.in-Some.ensures, c.loop-candidate.invariant.same, c.in-Some-find_match.ensures)
+returns-in-Some-find_match g t c = grind (arith, common_steps, match_less, picks_set, c.in-Some.ensures.is_open, c.loop-candidate.invariant.same, c.in-Some-find_match.ensures)
 
 pub bounds-slots-place-in-loop-candidate : goal.bounds-slots-place-in-loop-candidate
 bounds-slots-place-in-loop-candidate g t c =
     let ps = picks c.args.slots.now in
     let next = picks_set c.loop-candidate.slots ps c.in-Some.place (c.from-label.result, c.in-Some-atom.atom) c.loop-candidate.invariant.same in
-    let back = picks_back c.find_match.new.slots ps c.in-Some.place (c.from-label.result, c.in-Some-atom.atom.now) (c.in_default-find_match.ensures.0 ∙ next) c.in-Some.ensures.none in
-    subst (λ n. c.in-Some.place < n) (length-set c.find_match.new.slots c.in-Some.place None) (slots_within (slice_set c.find_match.new.slots c.in-Some.place None) ps c.in-Some.place back c.in-Some.ensures)
+    let back = picks_back c.find_match.new.slots ps c.in-Some.place (c.from-label.result, c.in-Some-atom.atom.now) (c.in_default-find_match.ensures.0 ∙ next) c.in-Some.ensures.is_open.none in
+    subst (λ n. c.in-Some.place < n) (length-set c.find_match.new.slots c.in-Some.place None) (slots_within (slice_set c.find_match.new.slots c.in-Some.place None) ps c.in-Some.place back c.in-Some.ensures.is_open)
 
 pub loop-candidate-preserved : goal.loop-candidate-preserved
 loop-candidate-preserved g t c =
@@ -98,8 +98,8 @@ loop-candidate-preserved g t c =
     let next = picks_set c.loop-candidate.slots ps place (label, c.in-Some-atom.atom) c.loop-candidate.invariant.same in
     let stored : atom_at store label ≡ Some c.in-Some-atom.atom.now = sym c.atom.ensures ∙ ap (option_map (λ (b : Bor (Atom ℕ)). b.now)) c.in-Some-atom.is in
     record {
-      same = picks_back c.find_match.new.slots ps place (label, c.in-Some-atom.atom.now) (c.in_default-find_match.ensures.0 ∙ next) c.in-Some.ensures.none;
-      none = tried_more (Tried rule store ps place) c.candidates-candidate-items.result.now c.loop-candidate.candidate-index label c.loop-candidate-test.true c.from-label.ensures c.loop-candidate.invariant.none
+      same = picks_back c.find_match.new.slots ps place (label, c.in-Some-atom.atom.now) (c.in_default-find_match.ensures.0 ∙ next) c.in-Some.ensures.is_open.none;
+      none = tried_more (Tried rule store ps place) c.in-Some.labels.now c.loop-candidate.candidate-index label c.loop-candidate-test.true c.from-label.ensures c.loop-candidate.invariant.none
           (tried_one rule store ps place label c.in-Some-atom.atom.now stored (subst (λ qs. NoMatch rule store (Fills qs)) next c.in_default-find_match.ensures.1));
     }
 
@@ -109,7 +109,7 @@ returns g t c =
     let store = g.P.Partners.store c.args.partners.now in
     let ps = picks c.args.slots.now in
     let place = c.in-Some.place in
-    let items = c.candidates-candidate-items.result.now in (
+    let items = c.in-Some.labels.now in (
       c.loop-candidate.invariant.same,
-      no_more rule store (g.P.Partners.own c.args.partners.now) ps place (place + 1) c.args.binding items c.requires.partial c.in-Some.ensures (omega arith) c.requires.own c.candidates-candidate-items.ensures (subst (AllByRecursion (Tried rule store ps place)) (take_all c.loop-candidate.candidate-index items c.loop-candidate-test.false) c.loop-candidate.invariant.none),
+      no_more rule store (g.P.Partners.own c.args.partners.now) ps place (place + 1) c.args.binding items c.requires.partial c.in-Some.ensures.is_open (omega arith) c.requires.own c.in-Some.ensures.has (subst (AllByRecursion (Tried rule store ps place)) (take_all c.loop-candidate.candidate-index items c.loop-candidate-test.false) c.loop-candidate.invariant.none),
     )
