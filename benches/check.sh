@@ -1,12 +1,12 @@
 #!/usr/bin/env bash
 # Times `chr check`, `chr explain` and `chr picture` beside the `chr run` that made the log, for seven kinds of programs at two
-# sizes each, ten times apart but for the primes and the sorting, and prints a table in Markdown: entries, seconds, how many
-# times as long as the run the check takes, and the most memory of both. It builds nothing: run it by hand, on an idle machine,
-# once `./chr` is built. `check.sh KIND..` measures these kinds alone. Times are of whole processes, reading and writing
-# included; each is the best of REPEAT runs, three unless it is set.
+# sizes each, and prints a table in Markdown: entries, seconds, how many times as long as the run the check takes, and the most
+# memory of both. It builds nothing: run it by hand, on an idle machine, once `./chr` is built. `check.sh KIND..` measures these
+# kinds alone, CHR names another program. Times are of whole processes, reading and writing included; each is the best of REPEAT
+# runs, three unless it is set.
 set -eu
 top=$(cd "$(dirname "${BASH_SOURCE[0]}")/.." && pwd)
-program=$top/out/chr
+program=${CHR:-$top/out/chr}
 repeat=${REPEAT:-3}
 
 if [ ! -x "$program" ]; then
@@ -113,7 +113,6 @@ sizes() {
 measure() {
   local best=999999 most=0 seconds kilobytes
   for ((k = 0; k < repeat; k++)); do
-    LC_ALL=C TIMEFORMAT=%e
     /usr/bin/env time -f '%e %M' -o "$work/time" "$@" >"$work/said"
     read -r seconds kilobytes <"$work/time"
     best=$(awk -v a="$best" -v b="$seconds" 'BEGIN { print a < b ? a : b }')
