@@ -33,15 +33,16 @@ fn find_with_own<'s, A: Allocator + Copy, P: Partners<A>>(
     ensures { MatchOption result (NoMatch rule.now (P.store partners.now) (Has (P.own partners.now))) (IsMatch rule.now (P.store partners.now) (Has (P.own partners.now))) }
 {
     let label = partners.own();
-    let free = Binding::free(rule.variables());
+    let mut binding = Binding::free(rule.variables());
     let heads = rule.heads();
     for head in 0..heads {
-        let Some(binding) = fit_next(rule, &free, head + 1, atom) else {
+        binding.reset(rule.variables());
+        if !fit_next(rule, &mut binding, head + 1, atom) {
             continue;
-        };
+        }
         let mut slots = [None; MOST_HEADS];
         slots[head] = Some((label, atom));
-        if let Some(found) = find_match(rule, partners, &mut slots[..heads], binding) {
+        if let Some(found) = find_match(rule, partners, &mut slots[..heads], &mut binding) {
             return Some(found);
         }
     }

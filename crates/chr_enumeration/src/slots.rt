@@ -1,13 +1,13 @@
 //! The heads of a rule, with the entries of a store that are picked for them.
 ghost use Rattle.std.specs.Prelude.{◌≡◌, ◌≤◌, ◌<◌, ◌+◌, true, length, MatchOption};
 ghost use Rattle.chr_value.specs.Bounds.{most_heads};
-ghost use Rattle.chr_guard.specs.Bindings.{Narrows, NoneUnder};
+ghost use Rattle.chr_guard.specs.Bindings.{NarrowsIf, Keeps};
 ghost use Rattle.chr_model.specs.Stores.{among, labels};
 ghost use Rattle.chr_enumeration.specs.Partners.{HasAllBut};
 ghost use Rattle.chr_enumeration.specs.Picks.{picks, picked, AllPicked, IsNext, Fills, HeadIs, MayBeHead, IsPartial, IsMatch, NoMatch};
 
 use crate::partners::Partners;
-use chr_guard::instance::instance_from;
+use chr_guard::instance::becomes_instance;
 use chr_guard::{Binding, fit_head};
 use chr_log::{Label, Labels};
 use chr_rule::Rule;
@@ -37,25 +37,25 @@ fn is_picked<A: Allocator>(slots: &[Option<(Label, &Atom<A>)>], label: Label) ->
     false
 }
 
-/// Returns the binding under which the head of a number, from 1, is an atom as well. None where there is none.
+/// Extends a binding so that the head of a number, from 1, is an atom as well. False only where nothing that extends it makes
+/// them equal.
 pub fn fit_next<'s, A: Allocator + Copy>(
     rule: &Rule<A>,
-    binding: &Binding<'s, A>,
+    binding: &mut Binding<'s, A>,
     number: usize,
     atom: &'s Atom<A>,
-) -> Option<Binding<'s, A>>
-    requires { length binding.now ≡ rule.now.variables }
-    ensures { MatchOption result (NoneUnder (HeadIs rule.now number atom.now) binding.now) (Narrows (HeadIs rule.now number atom.now) binding.now) }
+) -> bool
+    requires { length binding.old ≡ rule.now.variables }
+    ensures narrows { NarrowsIf (HeadIs rule.now number atom.now) result binding.old binding.new }
+    ensures keeps { Keeps binding.old binding.new }
 {
-    let head = rule.head(number)?;
-    if head.name.number != atom.name().number {
-        return None;
+    let Some(head) = rule.head(number) else {
+        return false;
+    };
+    if !fit_head(binding, head, atom) {
+        return false;
     }
-    let mut next = binding.copy();
-    if !fit_head(&mut next, head, atom) {
-        return None;
-    }
-    Some(next)
+    true
 }
 
 /// Returns the labels that are picked, in head order.
@@ -77,19 +77,22 @@ fn whole<'s, A: Allocator + Copy, P: Partners<A>>(
     rule: &Rule<A>,
     partners: &P,
     slots: &[Option<(Label, &Atom<A>)>],
-    binding: Binding<'s, A>,
+    binding: &mut Binding<'s, A>,
 ) -> Option<Match<'s, A>>
-    requires partial { IsPartial rule.now (P.store partners.now) (picks slots.now) binding }
+    requires partial { IsPartial rule.now (P.store partners.now) (picks slots.now) binding.old }
     requires all { AllPicked (picks slots.now) }
-    ensures { MatchOption result (NoMatch rule.now (P.store partners.now) (Fills (picks slots.now))) (IsMatch rule.now (P.store partners.now) (Fills (picks slots.now))) }
+    ensures found { MatchOption result (NoMatch rule.now (P.store partners.now) (Fills (picks slots.now))) (IsMatch rule.now (P.store partners.now) (Fills (picks slots.now))) }
+    ensures keeps { Keeps binding.old binding.new }
 {
     let _own = partners.own();
-    let binding = instance_from(rule, binding)?;
+    if !becomes_instance(rule, rule.guard(), binding) {
+        return None;
+    }
     let (kept, removed) = slots.split_at(rule.kept().len());
     Some(Match {
         kept: labels_of(kept),
         removed: labels_of(removed),
-        binding,
+        binding: binding.copy(),
     })
 }
 
@@ -144,20 +147,22 @@ fn next_head<'s, 'v, A: Allocator + Copy, P: Partners<A>>(
 }
 
 /// Returns the first labelled instance of a rule that has what is picked, where the binding is that of the picked heads'
-/// variables. Where there is none the slots are as before.
+/// variables. Where there is none the slots are as before, and the binding binds what it bound.
 pub fn find_match<'s, A: Allocator + Copy, P: Partners<A>>(
     rule: &Rule<A>,
     partners: &'s P,
     slots: &mut [Option<(Label, &'s Atom<A>)>],
-    binding: Binding<'s, A>,
+    binding: &mut Binding<'s, A>,
 ) -> Option<Match<'s, A>>
-    requires partial { IsPartial rule.now (P.store partners.now) (picks slots.old) binding }
+    requires partial { IsPartial rule.now (P.store partners.now) (picks slots.old) binding.old }
     requires own { among (labels (picked (picks slots.old))) (P.own partners.now) ≡ true }
-    ensures { let ps = picks slots.old in MatchOption result ((picks slots.new ≡ ps) × NoMatch rule.now (P.store partners.now) (Fills ps)) (IsMatch rule.now (P.store partners.now) (Fills ps)) }
+    ensures found { let ps = picks slots.old in MatchOption result ((picks slots.new ≡ ps) × NoMatch rule.now (P.store partners.now) (Fills ps)) (IsMatch rule.now (P.store partners.now) (Fills ps)) }
+    ensures keeps { Keeps binding.old binding.new }
 {
-    let Some((place, labels)) = next_head(rule, partners, slots, &binding) else {
+    let Some((place, labels)) = next_head(rule, partners, slots, binding) else {
         return whole(rule, partners, slots, binding);
     };
+    let known = binding.known();
     for candidate in labels {
         let label = u64::from(*candidate);
         if is_picked(slots, label) {
@@ -166,14 +171,16 @@ pub fn find_match<'s, A: Allocator + Copy, P: Partners<A>>(
         let Some(atom) = partners.atom(label) else {
             continue;
         };
-        let Some(next) = fit_next(rule, &binding, place + 1, atom) else {
+        if !fit_next(rule, binding, place + 1, atom) {
+            binding.return_to(known);
             continue;
-        };
+        }
         slots[place] = Some((label, atom));
-        if let Some(found) = find_match(rule, partners, slots, next) {
+        if let Some(found) = find_match(rule, partners, slots, binding) {
             return Some(found);
         }
         slots[place] = None;
+        binding.return_to(known);
     }
     None
 }

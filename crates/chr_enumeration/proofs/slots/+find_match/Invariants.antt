@@ -10,5 +10,6 @@ decreases-find_match g l = left (picks l.slots.now)
 abbrev pub invariant-loop-candidate : goal.invariant-loop-candidate
 invariant-loop-candidate g l = record {
   same : picks l.slots ≡ picks l.fn.slots;
+  binding : l.binding ≡ l.fn.binding;
   none : AllByRecursion (Tried l.fn.rule (g.P.Partners.store l.fn.partners) (picks l.fn.slots) l.place) (take l.candidate-index l.labels);
 }
