@@ -45,7 +45,7 @@ pub enum End {
 /// What a run leaves.
 #[derive(Drop)]
 pub struct Finished<A: Allocator> {
-    /// The book, of which no worker holds a ticket.
+    /// The book. No worker holds a ticket of it.
     pub book: Book<A>,
     /// What the pool counted, and the tickets left in it.
     pub tally: Tally<u64>,

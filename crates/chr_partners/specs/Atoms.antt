@@ -12,7 +12,7 @@ module _ {A : Type 0} where
   owned label None = None
   owned label (Some h) = if h.label == label then Some h else None
 
-  -- what each of these labels has, whose slots these are, and the first of which is this one
+  -- what each label has from this one on, where these are their slots
   abbrev pub held_from : Slab (Held A) → ℕ → List ℕ → List (Option (Held A))
   held_from held label [] = []
   held_from held label (slot ∷ slots) =
